@@ -1,0 +1,66 @@
+-- What an operation answers and what it leaves in its buffers: 01's "Refusals, operation by operation". An operation's refusal is a definition
+-- of the sizes that it was given; 0 is no refusal.
+use mathlib.Core.Bool.{Bool, true, false, not, _&&_, _||_}
+use mathlib.Core.List.{List, [], _++_}
+use Prim.Native.Nat.{ℕ, _*_}
+use lib.Dec.{eqb, leb, ltb}
+use lib.ListN.{length, drop, replicate}
+use Rattle.meaning.specs.Sets.{pick}
+use Rattle.meaning.specs.Plate.{gridFits, connectivityFits}
+
+-- the number where the condition is met, else what the later conditions give
+abbrev pub refuse : Bool → ℕ → ℕ → ℕ
+refuse met number later = pick met number later
+
+-- an output after its answer was written: the answer, and then the excess untouched
+abbrev pub over : List ℕ → List ℕ → List ℕ
+over answer out = answer ++ drop (length answer) out
+
+-- an output: written where nothing was refused, else untouched
+abbrev pub outAfter : ℕ → List ℕ → List ℕ → List ℕ
+outAfter refusal answer out = pick (eqb refusal 0) (over answer out) out
+
+-- the work space: where the work began its first 8 × pixels entries are zero, and later ones untouched; else all is untouched
+abbrev pub workAfter : Bool → ℕ → List ℕ → List ℕ
+workAfter began pixels work = pick began (replicate (8 * pixels) 0 ++ drop (8 * pixels) work) work
+
+-- ---- the conditions that several operations share. k: connectivity, w: width, h: height; the others are lengths
+
+-- 1 connectivity not 4 or 8; 2 width or height or pixels beyond the grid; 3 plate length not the pixels
+abbrev pub plateRefusal : ℕ → ℕ → ℕ → ℕ → ℕ → ℕ
+plateRefusal k w h plate later =
+    refuse (not (connectivityFits k)) 1 (refuse (not (gridFits w h)) 2 (refuse (not (eqb plate (w * h))) 3 later))
+
+-- 6 work space shorter than 8 × pixels
+abbrev pub workRefusal : ℕ → ℕ → ℕ → ℕ → ℕ
+workRefusal w h work later = refuse (ltb work (8 * (w * h))) 6 later
+
+-- 4 limit 0 or above the pixels
+abbrev pub limitRefusal : ℕ → ℕ → ℕ → ℕ → ℕ
+limitRefusal w h limit later = refuse (not (leb 1 limit && leb limit (w * h))) 4 later
+
+-- 5 output shorter than what it is to hold
+abbrev pub outRefusal : ℕ → ℕ → ℕ → ℕ
+outRefusal needed out later = refuse (ltb out needed) 5 later
+
+-- ---- operation by operation
+
+-- opening, closing: 1, 2, 3, 4, 5, 6
+unfoldable pub cleanRefusal : ℕ → ℕ → ℕ → ℕ → ℕ → ℕ → ℕ → ℕ
+unfolding connectivityFits gridFits
+cleanRefusal k w h limit plate out work =
+    plateRefusal k w h plate (limitRefusal w h limit (outRefusal (w * h) out (workRefusal w h work 0)))
+
+-- marking maxima: 1, 2, 3, 5, 6
+unfoldable pub maximaRefusal : ℕ → ℕ → ℕ → ℕ → ℕ → ℕ → ℕ
+unfolding connectivityFits gridFits
+maximaRefusal k w h plate out work = plateRefusal k w h plate (outRefusal (w * h) out (workRefusal w h work 0))
+
+-- node list, writing a record: 1, 2, 3, 6, then 5 when the answer needs more places than were lent
+unfoldable pub treeRefusal : ℕ → ℕ → ℕ → ℕ → ℕ → ℕ → ℕ → ℕ
+unfolding connectivityFits gridFits
+treeRefusal k w h plate needed out work = plateRefusal k w h plate (workRefusal w h work (outRefusal needed out 0))
+
+-- where the work of an operation whose last condition is 5 began
+abbrev pub began : ℕ → Bool
+began refusal = eqb refusal 0 || eqb refusal 5

@@ -1,0 +1,55 @@
+-- The cut of a plate's tree at a limit, total and darkest grey, and the size list (pattern spectrum).
+use mathlib.Core.Bool.{Bool, _&&_}
+use mathlib.Core.List.{List}
+use Prim.Native.Nat.{ℕ, suc, _+_, _-_}
+use lib.Dec.{eqb}
+use lib.ListN.{length}
+use Rattle.meaning.specs.Sets.{pick, area, sum, most, lowest, table, elem}
+use Rattle.meaning.specs.Plate.{greatestGrey, touch, grey}
+use Rattle.meaning.specs.Opening.{atLeast, attribute}
+use Rattle.meaning.specs.Nodes.{levelOf, holds, nodesOf}
+
+-- ---- a tree whose nodes are those of the anchors xs
+
+module _ (n : ℕ) (near : ℕ → ℕ → Bool) (f : ℕ → ℕ) (xs : List ℕ) where
+  -- the cut at p: the highest level among p's nodes that qualify
+  unfoldable pub cutAt : ((ℕ → Bool) → Bool) → ℕ → ℕ
+  unfolding most holds
+  cutAt keep p = most (length xs) (λ (j : ℕ). let k = keep (holds n near f xs j) in pick (holds n near f xs j p && k) (levelOf n near f xs j) 0)
+
+  -- how many nodes have the attribute a
+  unfoldable pub countAt : ((ℕ → Bool) → ℕ) → ℕ → ℕ
+  unfolding area holds
+  countAt att a = area (length xs) (λ (j : ℕ). eqb (att (holds n near f xs j)) a)
+
+  -- the grey lost at a: the sum over the pixels of the cut at a minus the cut at a + 1
+  unfoldable pub lostAt : ((ℕ → Bool) → ℕ) → ℕ → ℕ
+  unfolding sum cutAt
+  lostAt att a = sum n (λ (p : ℕ). cutAt (atLeast att a) p - cutAt (atLeast att (suc a)) p)
+
+-- ---- a plate
+
+-- the cut of a plate's tree at a limit
+unfoldable pub cut : ℕ → ℕ → ℕ → List ℕ → List ℕ
+unfolding cutAt table touch nodesOf area
+cut k w limit f = table (length f) (cutAt (length f) (touch k w) (grey f) (nodesOf k w f) (atLeast (attribute (length f)) limit))
+
+-- a plate's total grey
+unfoldable pub total : List ℕ → ℕ
+unfolding sum
+total f = sum (length f) (grey f)
+
+-- a plate's darkest grey: the least that a pixel has
+unfoldable pub darkest : List ℕ → ℕ
+unfolding lowest
+darkest f = lowest (suc greatestGrey) (elem f)
+
+-- the size list: for each area from 1 to pixels - 1 the number of nodes of that area
+unfoldable pub counts : ℕ → ℕ → List ℕ → List ℕ
+unfolding countAt table touch nodesOf area
+counts k w f = table (length f - 1) (λ (i : ℕ). countAt (length f) (touch k w) (grey f) (nodesOf k w f) (attribute (length f)) (suc i))
+
+-- and the grey lost
+unfoldable pub losses : ℕ → ℕ → List ℕ → List ℕ
+unfolding lostAt table touch nodesOf area
+losses k w f = table (length f - 1) (λ (i : ℕ). lostAt (length f) (touch k w) (grey f) (nodesOf k w f) (attribute (length f)) (suc i))

@@ -1,0 +1,57 @@
+-- 01's small plate and the examples that it marks, as a table.
+use mathlib.Core.List.{List, [], _∷_}
+use Prim.Native.Nat.{ℕ}
+use Rattle.meaning.specs.Opening.{opened, closed}
+use Rattle.meaning.specs.Ink.{inkOf}
+
+-- rows 10 10 10 10 / 10 50 30 10 / 10 10 10 90
+abbrev pub small : List ℕ
+small = 10 ∷ 10 ∷ 10 ∷ 10 ∷ 10 ∷ 50 ∷ 30 ∷ 10 ∷ 10 ∷ 10 ∷ 10 ∷ 90 ∷ []
+
+-- what is asked: the opening or the closing of the small plate with a connectivity and a limit, or the ink of a grey
+pub data Job : Type 0 where
+  opening : ℕ → ℕ → Job
+  closing : ℕ → ℕ → Job
+  ink : ℕ → Job
+
+pub record Case : Type 0 where
+  pub job : Job
+  pub answer : List ℕ
+
+unfoldable pub run : Job → List ℕ
+unfolding opened closed inkOf
+run (opening k limit) = opened k 4 limit small
+run (closing k limit) = closed k 4 limit small
+run (ink g) = inkOf g ∷ []
+
+abbrev case : Job → List ℕ → Case
+case j a = record { job = j; answer = a }
+
+-- all pixels 10; pixels 5 and 6 hold 30, others 10; pixels 5, 6, 11 hold 30, others 10; each 10 becomes 30
+abbrev flat : List ℕ
+flat = 10 ∷ 10 ∷ 10 ∷ 10 ∷ 10 ∷ 10 ∷ 10 ∷ 10 ∷ 10 ∷ 10 ∷ 10 ∷ 10 ∷ []
+
+abbrev pair : List ℕ
+pair = 10 ∷ 10 ∷ 10 ∷ 10 ∷ 10 ∷ 30 ∷ 30 ∷ 10 ∷ 10 ∷ 10 ∷ 10 ∷ 10 ∷ []
+
+abbrev three : List ℕ
+three = 10 ∷ 10 ∷ 10 ∷ 10 ∷ 10 ∷ 30 ∷ 30 ∷ 10 ∷ 10 ∷ 10 ∷ 10 ∷ 30 ∷ []
+
+abbrev raised : List ℕ
+raised = 30 ∷ 30 ∷ 30 ∷ 30 ∷ 30 ∷ 50 ∷ 30 ∷ 30 ∷ 30 ∷ 30 ∷ 30 ∷ 90 ∷ []
+
+-- the eleven cases that 01 marks with *
+abbrev pub marked : List Case
+marked =
+    case (opening 4 1) small
+    ∷ case (opening 4 2) pair
+    ∷ case (opening 4 3) flat
+    ∷ case (opening 4 12) flat
+    ∷ case (opening 8 2) three
+    ∷ case (opening 8 3) three
+    ∷ case (opening 8 4) flat
+    ∷ case (closing 4 9) small
+    ∷ case (closing 4 10) raised
+    ∷ case (ink 0) (100 ∷ [])
+    ∷ case (ink 255) (0 ∷ [])
+    ∷ []

@@ -1,0 +1,58 @@
+-- A plate (a grey image): a list of greys, row by row; 01's "Grid and ticket". The one place that knows the sizes, the kinds of
+-- connectivity and the greatest grey.
+use mathlib.Core.Path.{_≡_}
+use mathlib.Core.Bool.{Bool, true, _&&_, _||_}
+use mathlib.Core.List.{List, map}
+use Prim.Native.Nat.{ℕ, _+_, _-_, _*_, _/_, _%_, _≤_, _<_, max}
+use lib.Dec.{eqb, leb}
+use lib.ListN.{length, getD}
+use Rattle.meaning.specs.Sets.{pick}
+
+-- a grey runs from 0 to the greatest grey, bare paper
+abbrev pub greatestGrey : ℕ
+greatestGrey = 255
+
+-- the longest side, and the most pixels, of the grid
+abbrev pub maxSide : ℕ
+maxSide = 32768
+
+abbrev pub maxPixels : ℕ
+maxPixels = 16777216
+
+-- width and height are each 1 to 32,768, and their product, the pixels, is at most 16,777,216
+unfoldable pub gridFits : ℕ → ℕ → Bool
+gridFits w h = (leb 1 w && leb w maxSide) && ((leb 1 h && leb h maxSide) && leb (w * h) maxPixels)
+
+-- connectivity is 4 or 8
+unfoldable pub connectivityFits : ℕ → Bool
+connectivityFits k = eqb k 4 || eqb k 8
+
+-- how far apart two numbers are
+abbrev pub apart : ℕ → ℕ → ℕ
+apart a b = (a - b) + (b - a)
+
+-- two pixels of a plate of width w touch: by a side (4), or by a side or a corner (8). Columns are compared, so nothing wraps round an edge
+unfoldable pub touch : ℕ → ℕ → ℕ → ℕ → Bool
+touch k w p q =
+    let dx = apart (p % w) (q % w) in
+    let dy = apart (p / w) (q / w) in
+    pick (eqb k 4) (eqb (dx + dy) 1) (eqb (max dx dy) 1)
+
+-- the grey of pixel p
+abbrev pub grey : List ℕ → ℕ → ℕ
+grey f p = getD f p 0
+
+-- the negative: the greatest grey minus each grey
+unfoldable pub negative : List ℕ → List ℕ
+negative f = map (λ (g : ℕ). greatestGrey - g) f
+
+-- f is a plate of width w and height h, with connectivity k: what 01 calls an accepted plate with its connectivity
+pub record Plate (k w h : ℕ) (f : List ℕ) : Type 0 where
+  pub kind : connectivityFits k ≡ true
+  pub sizes : gridFits w h ≡ true
+  pub long : length f ≡ w * h
+  pub greys : (p : ℕ) → p < length f → grey f p ≤ greatestGrey
+
+-- one plate is nowhere lighter than another: no pixel has a greater grey in it
+abbrev pub Below : ℕ → (ℕ → ℕ) → (ℕ → ℕ) → Type 0
+Below n f g = (q : ℕ) → q < n → f q ≤ g q
