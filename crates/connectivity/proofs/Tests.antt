@@ -1,0 +1,80 @@
+-- Tests (Bools) as facts: and, or, choice; `search tests` and `omega orders`.
+use mathlib.Core.Path.{_≡_, refl, sym, ap, _∙_}
+use mathlib.Core.Logic.{_⊎_, inl, inr}
+use mathlib.Core.Bool.{Bool, true, false, _&&_, _||_}
+use mathlib.Core.List.{List, [], _∷_, _++_, map}
+use Prim.Native.Nat.{ℕ, zero, suc, _+_, _≤_, _<_, max}
+use native.Mathlib.Nat.{le-antisymm, le-refl, not-suc-le-zero, le-of-suc-le-suc, zero-add, suc-add, add-zero, add-suc}
+use native.Mathlib.Decide.{decLe}
+use native.Mathlib.Omega.{arith}
+use lib.Dec.{T, eqb, eqb→eq, eqb-refl, leb→le, le→leb}
+use lib.ListN.{length, getD, length-map}
+use Rattle.meaning.specs.Sets.{bit, pick}
+
+pub both : (a b : Bool) → T a → T b → T (a && b)
+both true true s t = tt
+both true false s t = t
+both false b s t = s
+
+pub both-left : (a b : Bool) → T (a && b) → T a
+both-left true b t = tt
+both-left false b t = t
+
+pub both-right : (a b : Bool) → T (a && b) → T b
+both-right true b t = t
+both-right false b t = absurd t
+
+pub either-left : (a b : Bool) → T a → T (a || b)
+either-left true b t = tt
+either-left false b t = absurd t
+
+pub either-right : (a b : Bool) → T b → T (a || b)
+either-right true b t = tt
+either-right false b t = t
+
+pub either-cases : (a b : Bool) → T (a || b) → T a ⊎ T b
+either-cases true b t = inl tt
+either-cases false b t = inr t
+
+-- for `search tests`: a test from the tests that it is made of, and these from it
+pub ruleset tests = (both, both-left, both-right, either-left, either-right)
+
+-- for `omega orders`: `arith`, and the tests `leb` read as orders
+pub ruleset orders = (arith, leb→le, le→leb)
+
+pub choice : (a : Bool) → T a ⊎ (T a → ⊥)
+choice true = inl tt
+choice false = inr (λ t. t)
+
+-- two tests that pass alike are equal
+pub same-test : (a b : Bool) → (T a → T b) → (T b → T a) → a ≡ b
+same-test true true f g = refl
+same-test true false f g = absurd (f tt)
+same-test false true f g = absurd (g tt)
+same-test false false f g = refl
+
+-- ---- choices
+
+pub pick-yes : (b : Bool) (x y : ℕ) → T b → pick b x y ≡ x
+pick-yes true x y t = refl
+pick-yes false x y t = absurd t
+
+pub pick-no : (b : Bool) (x y : ℕ) → (T b → ⊥) → pick b x y ≡ y
+pick-no true x y f = absurd (f tt)
+pick-no false x y f = refl
+
+pub bit-yes : (b : Bool) → T b → bit b ≡ 1
+bit-yes true t = refl
+bit-yes false t = absurd t
+
+pub bit-no : (b : Bool) → (T b → ⊥) → bit b ≡ 0
+bit-no true f = absurd (f tt)
+bit-no false f = refl
+
+pub bit-and-true : (b : Bool) → bit (b && true) ≡ bit b
+bit-and-true true = refl
+bit-and-true false = refl
+
+pub bit-and-false : (b : Bool) → bit (b && false) ≡ 0
+bit-and-false true = refl
+bit-and-false false = refl
