@@ -78,3 +78,7 @@ bit-and-true false = refl
 pub bit-and-false : (b : Bool) → bit (b && false) ≡ 0
 bit-and-false true = refl
 bit-and-false false = refl
+
+pub pick-le : (b : Bool) (x m : ℕ) → (T b → x ≤ m) → pick b x 0 ≤ m
+pick-le true x m f = f tt
+pick-le false x m f = omega arith

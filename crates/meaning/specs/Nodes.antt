@@ -2,7 +2,7 @@
 -- in the list of the anchors.
 use mathlib.Core.Bool.{Bool, _&&_}
 use mathlib.Core.List.{List}
-use Prim.Native.Nat.{ℕ, suc, _-_, _≤_, _<_}
+use Prim.Native.Nat.{ℕ, zero, suc, _-_, _≤_, _<_}
 use lib.Dec.{T, eqb}
 use lib.ListN.{length}
 use Rattle.meaning.specs.Sets.{Within, area, greatest, lowest, table, nth, has, place, rising, gather}
@@ -51,6 +51,12 @@ module _ (n : ℕ) (near : ℕ → ℕ → Bool) (f : ℕ → ℕ) (xs : List �
   unfoldable pub parent : ℕ → ℕ
   unfolding greatest holds
   parent i = greatest (λ (j : ℕ). holds j (nth xs i)) (i - 1)
+
+  -- the rise of a node above its parent's level; of the root, its level
+  unfoldable pub rise : ℕ → ℕ
+  unfolding parent
+  rise zero = levelOf 0
+  rise (suc j) = levelOf (suc j) - levelOf (parent (suc j))
 
 -- ---- 01's words
 

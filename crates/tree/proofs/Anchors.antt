@@ -1,6 +1,5 @@
--- The nodes of the component tree as a list. A node is named by its anchor, the lowest pixel of its own level in it.
--- Proved: p's node and p's anchor's node are one; two pixels of one grey are in one node if and only if their anchors are equal;
--- the list has every anchor; and the cut of the list is the opening.
+-- Laws of anchors: p's node and its anchor's node are one; two pixels of one grey are in one node exactly when their anchors are equal; the list of
+-- the anchors has every anchor.
 use mathlib.Core.Path.{_≡_, refl, sym, ap, _∙_}
 use mathlib.Core.Logic.{inl, inr}
 use mathlib.Core.Bool.{Bool, true, false, _&&_}
@@ -9,11 +8,18 @@ use Prim.Native.Nat.{ℕ, zero, suc, _≤_, _<_, max}
 use native.Mathlib.Nat.{le-trans, le-antisymm, not-suc-le-zero}
 use native.Mathlib.Omega.{arith}
 use lib.Dec.{T, eqb, eqb→eq, eqb-refl}
-
--- ---- definitions
+use Rattle.meaning.specs.Nodes.{anchor, anchors, node}
+use Rattle.meaning.specs.Opening.{lighter, patch}
+use Rattle.meaning.specs.Paths.{Grid, Joined, here}
+use Rattle.meaning.specs.Sets.{Within, elem, has, rising}
+use Rattle.connectivity.proofs.Lists.{elem-gather, elem-rising}
+use Rattle.connectivity.proofs.Paths.{end-below, joined-sym, joined-trans}
+use Rattle.connectivity.proofs.Sets.{lowest-below, lowest-is, lowest-passes, lowest-same, top}
+use Rattle.connectivity.proofs.Tests.{both, orders, tests}
+use Rattle.opening.proofs.Opening.{joined-patch, patch-joined}
 
 -- the pixels of p's node that are of the node's own level
-unfoldable pub ground : ℕ → (ℕ → ℕ → Bool) → (ℕ → ℕ) → ℕ → ℕ → Bool
+unfoldable ground : ℕ → (ℕ → ℕ → Bool) → (ℕ → ℕ) → ℕ → ℕ → Bool
 unfolding node
 ground n near f p = let c = node n near f p in λ (q : ℕ). has c q && eqb (f q) (f p)
 
@@ -36,11 +42,11 @@ module _ {n : ℕ} {near : ℕ → ℕ → Bool} (grid : Grid n near) (f : ℕ �
   self p l = ground-intro p p (here l (omega orders)) refl
 
   pub anchor-below : (p : ℕ) → p < n → anchor n near f p < n
-  unfolding anchor
+  unfolding anchor ground
   anchor-below p l = lowest-below n (ground n near f p) p l (self p l)
 
   anchor-ground : (p : ℕ) → p < n → T (ground n near f p (anchor n near f p))
-  unfolding anchor
+  unfolding anchor ground
   anchor-ground p l = lowest-passes n (ground n near f p) p l (self p l)
 
   pub anchor-joined : (p : ℕ) → p < n → Joined n near (lighter f (f p)) p (anchor n near f p)
@@ -51,7 +57,7 @@ module _ {n : ℕ} {near : ℕ → ℕ → Bool} (grid : Grid n near) (f : ℕ �
 
   -- no pixel of the node's own level in it is lower
   pub anchor-least : (p q : ℕ) → Joined n near (lighter f (f p)) p q → f q ≡ f p → anchor n near f p ≤ q
-  unfolding anchor
+  unfolding anchor ground
   anchor-least p q j e = lowest-is n (ground n near f p) .least q (end-below j) (ground-intro p q j e)
 
   -- pixels of one grey that are joined at it have one ground
@@ -63,7 +69,7 @@ module _ {n : ℕ} {near : ℕ → ℕ → Bool} (grid : Grid n near) (f : ℕ �
 
   -- so they have one anchor
   pub anchor-same : (p q : ℕ) → Joined n near (lighter f (f p)) p q → f q ≡ f p → anchor n near f p ≡ anchor n near f q
-  unfolding anchor
+  unfolding anchor ground
   anchor-same p q j e =
       lowest-same n (ground n near f p) (ground n near f q) (ground-within p q j e)
       (ground-within q p (rw e (joined-sym (grid .back) j)) (sym e))
@@ -85,25 +91,3 @@ module _ {n : ℕ} {near : ℕ → ℕ → Bool} (grid : Grid n near) (f : ℕ �
       elem-gather (suc m) (λ (t : ℕ). rising n (λ (p : ℕ). eqb (f p) t && eqb (anchor n near f p) p)) a (f a) (omega (arith, top a (anchor-below p l)))
       (elem-rising n (λ (p : ℕ). eqb (f p) (f a) && eqb (anchor n near f p) p) a (anchor-below p l)
       (both (eqb (f a) (f a)) (eqb (anchor n near f a) a) (eqb-refl (f a)) (rw (anchor-idempotent p l) (eqb-refl a))))
-
--- ---- the cut of a list of nodes that has every anchor
-
-module _ {n : ℕ} {near : ℕ → ℕ → Bool} {keep : (ℕ → Bool) → Bool} (grid : Grid n near) (crit : Criterion n keep) (f : ℕ → ℕ) where
-  hit-anchor : (t p : ℕ) → Hit n near f t p → Hit n near f t p
-  hit-anchor t p r =
-      let l = end-below (r .joined) in
-      record {
-        at = anchor n near f (r .at);
-        joined = joined-trans (r .joined) (rw (r .level) at (anchor-joined grid f (r .at) l));
-        level = anchor-level grid f (r .at) l ∙ r .level;
-      }
-
-  pub opened-cut-list : (nodes : List ℕ) → ((a : ℕ) → a < n → T (elem nodes (anchor n near f a)))
-      → (p : ℕ) → p < n → openedAt n near keep f p ≡ mostOf (shown n near keep f p) nodes
-  unfolding hit-anchor
-  opened-cut-list nodes all p l =
-      let r = opened-hit grid crit f p l in
-      le-antisymm
-      (le-trans (le-shown grid crit f p l (hit-anchor (openedAt n near keep f p) p r))
-      (mostOf-ge (shown n near keep f p) nodes (anchor n near f (r .at)) (all (r .at) (end-below (r .joined)))))
-      (mostOf-le (shown n near keep f p) nodes (openedAt n near keep f p) (shown-le grid crit f p l))

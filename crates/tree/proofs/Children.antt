@@ -10,6 +10,16 @@ use native.Mathlib.Decide.{decLe}
 use native.Mathlib.Omega.{arith}
 use lib.Dec.{T, leb, leb→le, eqb, eqb→eq, eqb-refl}
 use lib.ListN.{length}
+use Rattle.meaning.specs.Nodes.{areaOf, holds, own, parent}
+use Rattle.meaning.specs.Opening.{Criterion}
+use Rattle.meaning.specs.Paths.{Grid}
+use Rattle.meaning.specs.Sets.{area, bit, greatest, nth, pick, sum}
+use Rattle.connectivity.proofs.Sets.{greatest-good, greatest-le, greatest-most, greatest-same}
+use Rattle.connectivity.proofs.Sums.{area-sum, sum-add, sum-bits, sum-cong, sum-swap}
+use Rattle.connectivity.proofs.Tests.{bit-and-false, bit-and-true, bit-no, both, both-left, both-right, orders, same-test, tests}
+use Rattle.tree.specs.Tree.{Nodes, Over, live}
+use Rattle.tree.proofs.Nodes.{holds-over, level-le, level-same, over-holds, over-level, own-below, own-level, own-over, root-over}
+use Rattle.tree.proofs.Rises.{live-parent, live-root}
 
 -- every set is kept
 abbrev any : (ℕ → Bool) → Bool

@@ -9,20 +9,17 @@ use native.Mathlib.Nat.{le-refl, le-antisymm}
 use native.Mathlib.Decide.{decLe}
 use native.Mathlib.Omega.{arith}
 use lib.Dec.{T, ltb, ltb→lt, lt→ltb}
-
--- the node of c holds a
-abbrev pub Over : (n : ℕ) (near : ℕ → ℕ → Bool) (f : ℕ → ℕ) → ℕ → ℕ → Type 0
-Over n near f c a = Joined n near (lighter f (f c)) c a
-
--- b's node is the parent of a's: the lightest of the darker nodes that hold a
-pub record Parent (n : ℕ) (near : ℕ → ℕ → Bool) (f : ℕ → ℕ) (a b : ℕ) : Type 0 where
-  pub over : Over n near f b a
-  pub darker : f b < f a
-  pub next : (c : ℕ) → Over n near f c a → f c < f a → f c ≤ f b
-
--- a's node is the root: no darker node holds a
-abbrev pub Root : (n : ℕ) (near : ℕ → ℕ → Bool) (f : ℕ → ℕ) → ℕ → Type 0
-Root n near f a = (c : ℕ) → Over n near f c a → f c < f a → ⊥
+use Rattle.meaning.specs.Nodes.{node}
+use Rattle.meaning.specs.Opening.{Criterion, lighter, openedAt, patch}
+use Rattle.meaning.specs.Paths.{Grid, Joined}
+use Rattle.meaning.specs.Sets.{has, most}
+use Rattle.connectivity.specs.Members.{Top}
+use Rattle.connectivity.proofs.Paths.{end-below, end-ok, joined-mono, joined-sym, joined-trans, start-below}
+use Rattle.connectivity.proofs.Sets.{top-or-none}
+use Rattle.connectivity.proofs.Tests.{orders, tests}
+use Rattle.opening.proofs.Opening.{joined-patch, opened-below, opened-kept, opened-least, patch-joined, patch-same}
+use Rattle.tree.specs.Tree.{Hit, Over, Parent, Root}
+use Rattle.tree.proofs.Hits.{opened-hit}
 
 module _ {n : ℕ} {near : ℕ → ℕ → Bool} (grid : Grid n near) (f : ℕ → ℕ) where
   -- two nodes with a common pixel are nested: the darker holds the lighter

@@ -13,38 +13,19 @@ use native.Mathlib.Decide.{decLe}
 use native.Mathlib.Omega.{arith}
 use lib.Dec.{T, leb→le, le→leb, eqb, eqb→eq}
 use lib.ListN.{length}
-
--- ---- definitions
-
--- xs has the anchors, and nothing else, in the order of the keys
-pub record Nodes (n : ℕ) (near : ℕ → ℕ → Bool) (f : ℕ → ℕ) (xs : List ℕ) : Type 0 where
-  pub inside : (q : ℕ) → T (elem xs q) → q < n
-  pub fixed : (q : ℕ) → T (elem xs q) → anchor n near f q ≡ q
-  pub all : (q : ℕ) → q < n → T (elem xs (anchor n near f q))
-  pub order : Rising (key n f) xs
-
-module _ (n : ℕ) (near : ℕ → ℕ → Bool) (f : ℕ → ℕ) (xs : List ℕ) where
-  abbrev pub levelOf : ℕ → ℕ
-  levelOf i = f (nth xs i)
-
-  -- node j holds p
-  unfoldable pub holds : ℕ → ℕ → Bool
-  unfolding node
-  holds j = let c = node n near f (nth xs j) in λ (p : ℕ). has c p
-
-  unfoldable pub areaOf : ℕ → ℕ
-  unfolding holds area
-  areaOf i = area n (holds i)
-
-  -- the number of p's own node
-  unfoldable pub own : ℕ → ℕ
-  unfolding anchor place
-  own p = place xs (anchor n near f p)
-
-  -- the last node before i that holds i's anchor, and 0 where there is none
-  unfoldable pub parent : ℕ → ℕ
-  unfolding greatest holds
-  parent i = greatest (λ (j : ℕ). holds j (nth xs i)) (i - 1)
+use Rattle.meaning.specs.Nodes.{anchor, anchors, areaOf, holds, node, own, parent}
+use Rattle.meaning.specs.Opening.{lighter}
+use Rattle.meaning.specs.Paths.{Grid, here}
+use Rattle.meaning.specs.Sets.{Distinct, Within, nth, rising, some}
+use Rattle.connectivity.proofs.Lists.{elem-nth, gather-rising, gather-sound, nth-inj, nth-le, nth-lt, place-is, rising-distinct, rising-nth, rising-rising, rising-same, rising-sound}
+use Rattle.connectivity.proofs.Paths.{end-ok, joined-mono, joined-sym, joined-trans, start-below}
+use Rattle.connectivity.proofs.Sets.{area-all, area-grows, greatest-good, greatest-le, greatest-most, some-elim, some-intro, top}
+use Rattle.connectivity.proofs.Tests.{choice, orders, tests}
+use Rattle.opening.proofs.Opening.{joined-patch, patch-joined}
+use Rattle.tree.specs.Tree.{Before, Nodes, Over, Parent, key}
+use Rattle.tree.proofs.Anchors.{anchor-joined, anchor-level, anchor-same, anchors-all}
+use Rattle.tree.proofs.Climb.{nested}
+use Rattle.tree.proofs.Keys.{grey-key, key-before, key-grey, key-pixel}
 
 -- ---- the list of the anchors is such a list, and the only one
 

@@ -10,19 +10,19 @@ use native.Mathlib.Nat.{le-refl, le-trans, le-of-eq, le-antisymm}
 use native.Mathlib.Omega.{arith}
 use lib.Dec.{T, leb→le}
 use lib.ListN.{length}
-
--- ---- definitions
-
-module _ (n : ℕ) (near : ℕ → ℕ → Bool) (f : ℕ → ℕ) (xs : List ℕ) where
-  unfoldable pub rise : ℕ → ℕ
-  unfolding parent
-  rise zero = f (nth xs 0)
-  rise (suc j) = f (nth xs (suc j)) - f (nth xs (parent n near f xs (suc j)))
-
-  -- node j holds p and is kept
-  unfoldable pub live : ((ℕ → Bool) → Bool) → ℕ → ℕ → Bool
-  unfolding holds
-  live keep p j = let k = keep (holds n near f xs j) in holds n near f xs j p && k
+use Rattle.meaning.specs.Nodes.{areaOf, holds, node, own, parent, rise}
+use Rattle.meaning.specs.Opening.{Criterion, lighter, openedAt, patch}
+use Rattle.meaning.specs.Paths.{Grid, Joined}
+use Rattle.meaning.specs.Sets.{Within, greatest, has, nth, pick, sum}
+use Rattle.connectivity.proofs.Paths.{end-below, end-ok, joined-sym, joined-trans}
+use Rattle.connectivity.proofs.Sets.{greatest-good, greatest-le, greatest-most, greatest-same}
+use Rattle.connectivity.proofs.Sums.{sum-cong, sum-members, sum-swap}
+use Rattle.connectivity.proofs.Tests.{both, both-left, both-right, pick-yes}
+use Rattle.opening.proofs.Opening.{joined-patch, opened-kept, opened-least, patch-same}
+use Rattle.tree.specs.Tree.{Nodes, Over, live}
+use Rattle.tree.proofs.Climb.{nested}
+use Rattle.tree.proofs.Hits.{opened-hit}
+use Rattle.tree.proofs.Nodes.{above-within, holds-over, level-le, nth-inside, over-holds, own-below, own-level, own-over, parent-level, root-over, self-over, some-node}
 
 module _ {n : ℕ} {near : ℕ → ℕ → Bool} {keep : (ℕ → Bool) → Bool} (grid : Grid n near) (crit : Criterion n keep) {f : ℕ → ℕ} {xs : List ℕ} (nodes : Nodes n near f xs) where
   -- ---- the kept nodes that hold p

@@ -1,0 +1,9 @@
+-- Laws of the component tree: its nodes, parents, own nodes; the cut; sums over the nodes.
+pub mod Hits
+pub mod Keys
+pub mod Anchors
+pub mod Climb
+pub mod Nodes
+pub mod Rises
+pub mod Losses
+pub mod Children

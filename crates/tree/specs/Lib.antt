@@ -1,0 +1,2 @@
+-- What the laws of this crate speak of beside the definitions of `meaning`.
+pub mod Tree
