@@ -1,0 +1,33 @@
+-- Columns of a lent slice as functions. Column c of n entries stands at c * n .. c * n + n. A column is 0 beyond its end, so that two columns with
+-- the same entries are equal.
+use mathlib.Core.Path.{_≡_}
+use mathlib.Core.List.{List}
+use Prim.Native.Nat.{ℕ, _+_, _*_, _≤_, _<_}
+use lib.Dec.{ltb}
+use lib.ListN.{length, getD, drop}
+use Rattle.meaning.specs.Sets.{pick}
+
+-- column c of w, n entries long
+unfoldable pub col : ℕ → ℕ → List ℕ → ℕ → ℕ
+col c n w i = pick (ltb i n) (getD w (c * n + i) 0) 0
+
+-- the slice holds eight columns of n entries
+pub record Room (w : List ℕ) (n : ℕ) : Type 0 where
+  pub small : n ≤ 16777216
+  pub room : 8 * n ≤ length w
+
+-- g′ is g with v at i, below n
+pub record Put (n : ℕ) (g g′ : ℕ → ℕ) (i v : ℕ) : Type 0 where
+  pub here : g′ i ≡ v
+  pub other : (j : ℕ) → j < n → (j ≡ i → ⊥) → g′ j ≡ g j
+
+-- w′ is as long as w, and the same behind its eight columns
+pub record Frame (n : ℕ) (w w′ : List ℕ) : Type 0 where
+  pub len : length w′ ≡ length w
+  pub tail : drop (8 * n) w′ ≡ drop (8 * n) w
+
+-- w′ is w with v at entry i of column c
+pub record Stored (w w′ : List ℕ) (n c i v : ℕ) : Type 0 where
+  pub frame : Frame n w w′
+  pub put : Put n (col c n w) (col c n w′) i v
+  pub off : (d : ℕ) → d < 8 → (d ≡ c → ⊥) → col d n w′ ≡ col d n w
