@@ -8,3 +8,4 @@ pub mod Rises
 pub mod Losses
 pub mod Children
 pub mod Leaves
+pub mod NodeSets
