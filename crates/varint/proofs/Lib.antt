@@ -1,0 +1,4 @@
+pub mod Groups
+pub mod Starts
+pub mod Form
+pub mod Reading
