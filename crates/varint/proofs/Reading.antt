@@ -17,21 +17,21 @@ use Rattle.varint.proofs.Form.{Bytes, varint-value, varint-lead, form-l
 
 -- ---- the cases of fieldOf
 module _ (l : List ℕ) (at lo hi : ℕ) where
-  field-unended : length l ≤ lead l → fieldOf l at lo hi ≡ refused 20
+  pub field-unended : length l ≤ lead l → fieldOf l at lo hi ≡ refused 20
   unfolding fieldOf
   field-unended h = rw (le-leb (length l) (lead l) h)
 
   module _ (ended : lead l < length l) where
-    field-malformed : (starts (varint (value l)) l && ltb (value l) fieldBound) ≡ false → fieldOf l at lo hi ≡ refused 21
+    pub field-malformed : (starts (varint (value l)) l && ltb (value l) fieldBound) ≡ false → fieldOf l at lo hi ≡ refused 21
     unfolding fieldOf
     field-malformed e = rw (lt-leb (length l) (lead l) ended, e)
 
     module _ (form : starts (varint (value l)) l ≡ true) (small : value l < fieldBound) where
-      field-outside : (leb lo (value l) && leb (value l) hi) ≡ false → fieldOf l at lo hi ≡ refused 22
+      pub field-outside : (leb lo (value l) && leb (value l) hi) ≡ false → fieldOf l at lo hi ≡ refused 22
       unfolding fieldOf
       field-outside e = rw (lt-leb (length l) (lead l) ended, form, lt-ltb (value l) fieldBound small, e)
 
-      field-accepted : lo ≤ value l → value l ≤ hi → fieldOf l at lo hi ≡ accepted (value l) (at + length (varint (value l)))
+      pub field-accepted : lo ≤ value l → value l ≤ hi → fieldOf l at lo hi ≡ accepted (value l) (at + length (varint (value l)))
       unfolding fieldOf
       field-accepted a b = rw (lt-leb (length l) (lead l) ended, form, lt-ltb (value l) fieldBound small, le-leb lo (value l) a, le-leb (value l) hi b)
 
