@@ -7,6 +7,7 @@ use native.Mathlib.Omega.{arith}
 use native.Mathlib.Numerals.{add-one}
 use lib.Dec.{ltb, eqb}
 use lib.ListN.{length, getD, drop}
+use borrow.Author.Tests.{ltb-true}
 use Rattle.meaning.specs.Sets.{pick}
 use Rattle.meaning.specs.Record.{varint}
 use Rattle.varint.specs.Field.{starts, fieldBound, Reading, accepted, refused, sameAt}
@@ -27,6 +28,9 @@ pub compared-first : (s : List ℕ) (at v : ℕ) → v < fieldBound → Compared
 compared-first s at v h = record { small = h; ends = refl; decides = refl }
 
 module _ (s : List ℕ) (at v i x : ℕ) (p : Compared s at v i x) where
+  pub compared-inside : (b : ℕ) → byteIs s i b ≡ true → i < length s
+  compared-inside b e = ltb-true i (length s) (and-left (ltb i (length s)) (eqb (getD s i 0) b) e)
+
   module _ (high : 127 < x) where
     step : (byteIs s i (128 + x % 128) && starts (varint (x / 128)) (drop (suc i) s)) ≡ starts (varint v) (drop at s)
     step = rw (varint-high x high (p .small), starts-at (128 + x % 128) (varint (x / 128)) s i) at (p .decides)

@@ -7,10 +7,10 @@ use mathlib.Core.List.{List, [], _∷_}
 use Prim.Native.Nat.{ℕ, zero, suc, _+_, _-_, _*_, _≤_, _<_}
 use native.Mathlib.Omega.{arith}
 use native.Mathlib.Decide.{decLt}
-use lib.Dec.{ltb, eqb}
+use lib.Dec.{ltb, leb, eqb}
 use lib.ListN.{length, getD, drop, drop-of-length-le, length-drop}
 use lib.Seq.{drop-cons, getD-drop}
-use borrow.Author.Tests.{ltb-true, lt-ltb, le-ltb, lt-leb, eqb-true, eqb-false}
+use borrow.Author.Tests.{ltb-true, lt-ltb, leb-true, eqb-true, eqb-false}
 use Rattle.meaning.specs.Record.{varint}
 use Rattle.varint.specs.Field.{lead, value, starts, fieldBound, accepted, refused, fieldAt}
 use Rattle.varint.proofs.Groups.{cap, cap-more, varint-most, lead-low, lead-high, value-low, value-high}
@@ -94,3 +94,82 @@ module _ (s : List ℕ) (at end : ℕ) (h : end < length s) (ends : end ≡ at +
 
   pub spelt-all : (i v : ℕ) → Spelt s at end i v → i ≤ at → v ≡ value (drop at s)
   spelt-all i v p done = let e : i ≡ at = omega (arith, p .from) in rw (← e) (p .spells)
+
+-- ---- the cases of `fieldAt`, by the tests of the code
+-- the last group is zero, and not the only one
+abbrev pub zeroLast : List ℕ → ℕ → ℕ → Bool
+zeroLast s at end = ltb at end && eqb (getD s end 0) 0
+
+-- the bytes from `at` to the end are the form of v
+pub record Formed (s : List ℕ) (at end v : ℕ) : Type 0 where
+  pub ends : end ≡ at + lead (drop at s)
+  pub inside : lead (drop at s) < length (drop at s)
+  pub spells : v ≡ value (drop at s)
+  pub small : v < fieldBound
+  pub form : starts (varint (value (drop at s))) (drop at s) ≡ true
+
+module _ (s : List ℕ) (at lo hi end : ℕ) (ends : end ≡ at + lead (drop at s)) where
+  pub read-unended : length s ≤ end → refused 20 ≡ fieldAt s at lo hi
+  read-unended h = sym (field-unended (drop at s) at lo hi (omega (arith, length-drop at s)))
+
+  module _ (h : end < length s) where
+    inside : lead (drop at s) < length (drop at s)
+    inside = omega (arith, length-drop at s)
+
+    last : getD (drop at s) (lead (drop at s)) 0 ≡ getD s end 0
+    last = rw (getD-drop, ends)
+
+    -- no bytes that begin with the form of a number that is small enough come this way
+    malformed : (starts (varint (value (drop at s))) (drop at s) ≡ true → value (drop at s) < fieldBound → ⊥) → refused 21 ≡ fieldAt s at lo hi
+    malformed not-form =
+        sym (field-malformed (drop at s) at lo hi inside (and-not (starts (varint (value (drop at s))) (drop at s)) (ltb (value (drop at s)) fieldBound)
+        (λ f v. not-form f (ltb-true (value (drop at s)) fieldBound v))))
+
+    pub read-many : 4 < end - at → refused 21 ≡ fieldAt s at lo hi
+    read-many m = malformed (λ f v. omega (arith, form-lead (drop at s) v f, varint-most (value (drop at s))))
+
+    pub read-zero-last : zeroLast s at end ≡ true → refused 21 ≡ fieldAt s at lo hi
+    read-zero-last z =
+        let several : at < end = ltb-true at end (and-left (ltb at end) _ z) in
+        let zero : getD s end 0 ≡ 0 = eqb-true (getD s end 0) 0 (and-right (ltb at end) _ z) in
+        malformed (λ f v. omega (arith, last, form-last (drop at s) v f (omega arith)))
+
+    module _ (v : ℕ) (is : v ≡ value (drop at s)) where
+      pub read-large : 4294967295 < v → refused 21 ≡ fieldAt s at lo hi
+      read-large m = malformed (λ f small. omega arith)
+
+      -- bytes of which no test so far refuses
+      pub read-formed : Bytes s → zeroLast s at end ≡ false → v ≤ 4294967295 → Formed s at end v
+      read-formed bytes z small = record {
+        ends = ends;
+        inside = inside;
+        spells = is;
+        small = omega arith;
+        form =
+            shortest-form (drop at s) (λ i. rw getD-drop (bytes (at + i))) inside
+            (λ several. let t : eqb (getD s end 0) 0 ≡ false = rw (lt-ltb at end (omega arith)) at z in
+            let nonzero : getD s end 0 ≡ 0 → ⊥ = eqb-false (getD s end 0) 0 t in
+            omega (arith, last))
+            (omega arith);
+      }
+
+module _ (s : List ℕ) (at lo hi end v : ℕ) (f : Formed s at end v) where
+  outside : (lo ≤ v → v ≤ hi → ⊥) → refused 22 ≡ fieldAt s at lo hi
+  outside not-in =
+      let is = f .spells in
+      sym (field-outside (drop at s) at lo hi (f .inside) (f .form) (omega (arith, f .small))
+      (and-not (leb lo (value (drop at s))) (leb (value (drop at s)) hi)
+      (λ a b. not-in (omega (arith, leb-true lo (value (drop at s)) a)) (omega (arith, leb-true (value (drop at s)) hi b)))))
+
+  pub read-low : v < lo → refused 22 ≡ fieldAt s at lo hi
+  read-low l = outside (λ a b. omega arith)
+
+  pub read-high : hi < v → refused 22 ≡ fieldAt s at lo hi
+  read-high l = outside (λ a b. omega arith)
+
+  pub read-accepted : lo ≤ v → v ≤ hi → accepted v (end + 1) ≡ fieldAt s at lo hi
+  read-accepted a b =
+      let is = f .spells in
+      let small : value (drop at s) < fieldBound = omega (arith, f .small) in
+      let next : end + 1 ≡ at + length (varint (value (drop at s))) = omega (arith, f .ends, form-lead (drop at s) small (f .form)) in
+      rw (field-accepted (drop at s) at lo hi (f .inside) (f .form) small (omega arith) (omega arith), is, next)
