@@ -5,3 +5,6 @@ pub mod Reading
 pub mod Position
 pub mod Writing
 pub mod Comparing
+pub mod Encode
+pub mod Loops
+pub mod Examples
