@@ -1,14 +1,14 @@
 -- The rule of a table of ink percentages: one test that is computed over the whole table, and the law that turns it into the rule at each entry.
-use mathlib.Core.Path.{_≡_, ap, sym, _∙_}
+use mathlib.Core.Path.{_≡_}
 use mathlib.Core.Bool.{Bool, true, false, _&&_}
 use mathlib.Core.List.{List, [], _∷_}
 use Prim.Native.Nat.{ℕ, zero, suc, _+_, _-_, _*_, _<_}
-use native.Mathlib.Nat.{add-zero, zero-add, add-suc, suc-add}
+use native.Mathlib.Nat.{add-zero, zero-add}
 use native.Mathlib.Omega.{arith}
 use lib.Dec.{T, eqb, ltb, eqb→eq, ltb→lt}
 use lib.ListN.{length, getD}
 use Rattle.meaning.specs.Plate.{greatestGrey, apart}
-use Rattle.meaning.specs.Ink.{inkOf, Nearest}
+use Rattle.meaning.specs.Ink.{inkOf}
 use Rattle.ink.specs.Percentage.{Percentage}
 
 both-left : (a b : Bool) → T (a && b) → T a
@@ -43,11 +43,11 @@ unfolding inkOf
 right g r = eqb r (inkOf g) && ltb (2 * apart (greatestGrey * r) ((greatestGrey - g) * 100)) greatestGrey
 
 right-percentage : (g r : ℕ) → T (right g r) → Percentage g r
-unfolding right
-right-percentage g r t = record {
-  value = eqb→eq r (inkOf g) (both-left (eqb r (inkOf g)) _ t);
-  nearest = ltb→lt _ _ (both-right (eqb r (inkOf g)) _ t);
-}
+unfolding right inkOf
+right-percentage g r t =
+    let is : r ≡ inkOf g = eqb→eq r (inkOf g) (both-left (eqb r (inkOf g)) _ t) in
+    let near : 2 * apart (greatestGrey * r) ((greatestGrey - g) * 100) < greatestGrey = ltb→lt _ _ (both-right (eqb r (inkOf g)) _ t) in
+    record { value = omega arith; nearest = omega arith }
 
 -- the rule at each entry of a table that passes the test
 pub percentages : (table : List ℕ) → T (every right 0 table) → (g : ℕ) → g < length table → Percentage g (getD table g 0)

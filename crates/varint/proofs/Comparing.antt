@@ -1,16 +1,15 @@
 -- Comparing bytes with a number's form byte by byte: what is left to be compared decides.
-use mathlib.Core.Path.{_≡_, refl, sym, ap, _∙_}
+use mathlib.Core.Path.{_≡_, refl, ap}
 use mathlib.Core.Bool.{Bool, true, false, _&&_}
-use mathlib.Core.List.{List, [], _∷_}
+use mathlib.Core.List.{List, []}
 use Prim.Native.Nat.{ℕ, suc, _+_, _/_, _%_, _≤_, _<_}
 use native.Mathlib.Omega.{arith}
 use native.Mathlib.Numerals.{add-one}
 use lib.Dec.{ltb, eqb}
 use lib.ListN.{length, getD, drop}
 use borrow.Author.Tests.{ltb-true}
-use Rattle.meaning.specs.Sets.{pick}
 use Rattle.meaning.specs.Record.{varint}
-use Rattle.varint.specs.Field.{starts, fieldBound, Reading, accepted, refused, sameAt}
+use Rattle.varint.specs.Field.{starts, fieldBound, accepted, refused, sameAt}
 use Rattle.varint.proofs.Groups.{varint-low, varint-high}
 use Rattle.varint.proofs.Starts.{and-left, starts-at}
 

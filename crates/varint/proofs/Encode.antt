@@ -67,13 +67,12 @@ encode-bytes (v ∷ vs) i =
 -- ---- the bytes tell the numbers
 pub varint-unique : (v w : ℕ) (r t : List ℕ) → v < fieldBound → w < fieldBound → varint v ++ r ≡ varint w ++ t → (v ≡ w) × (r ≡ t)
 varint-unique v w r t a b e =
-    let is : v ≡ w = sym (varint-value v r a) ∙ ap value e ∙ varint-value w t b in
-    (
+    let is : v ≡ w = sym (varint-value v r a) ∙ ap value e ∙ varint-value w t b in (
       is,
       sym (drop-append-seam (varint v) r)
-      ∙ ap (λ (l : List ℕ). drop (length (varint v)) l) e
-      ∙ ap (λ (n : ℕ). drop (length (varint n)) (varint w ++ t)) is
-      ∙ drop-append-seam (varint w) t,
+          ∙ ap (λ (l : List ℕ). drop (length (varint v)) l) e
+          ∙ ap (λ (n : ℕ). drop (length (varint n)) (varint w ++ t)) is
+          ∙ drop-append-seam (varint w) t,
     )
 
 -- as many numbers with the same bytes, whatever follows, are the same, and so is what follows
@@ -84,7 +83,7 @@ encode-unique [] (w ∷ ws) r t a b n e = absurd (omega arith)
 encode-unique (v ∷ vs) [] r t a b n e = absurd (omega arith)
 encode-unique (v ∷ vs) (w ∷ ws) r t a b n e =
     let e′ : varint v ++ (encode vs ++ r) ≡ varint w ++ (encode ws ++ t) =
-        sym (append-assoc (varint v) (encode vs) r) ∙ e ∙ append-assoc (varint w) (encode ws) t in
+    sym (append-assoc (varint v) (encode vs) r) ∙ e ∙ append-assoc (varint w) (encode ws) t in
     let first = varint-unique v w (encode vs ++ r) (encode ws ++ t) (a .0) (b .0) e′ in
     let rest = encode-unique vs ws r t (a .1) (b .1) (omega arith) (first .1) in
     let is : v ≡ w = first .0 in

@@ -2,7 +2,7 @@
 use mathlib.Core.Path.{_≡_, refl, sym, ap, _∙_}
 use mathlib.Core.Bool.{Bool, true, false, _&&_}
 use mathlib.Core.List.{List, [], _∷_, _++_}
-use Prim.Native.Nat.{ℕ, zero, suc, _+_, _*_, _≤_, _<_}
+use Prim.Native.Nat.{ℕ, suc, _+_, _*_, _≤_, _<_}
 use native.Mathlib.Nat.{zero-add, add-zero}
 use native.Mathlib.Omega.{arith}
 use native.Mathlib.Numerals.{add-one}
@@ -11,7 +11,7 @@ use lib.Seq.{sets, sets-eq, length-sets, drop-drop}
 use Rattle.meaning.specs.Sets.{pick}
 use Rattle.meaning.specs.Record.{varint, encode}
 use Rattle.meaning.specs.Answers.{over}
-use Rattle.varint.specs.Field.{starts, Reading, accepted, refused, sameAt}
+use Rattle.varint.specs.Field.{starts, accepted, refused, sameAt}
 use Rattle.varint.proofs.Groups.{varint-most}
 use Rattle.varint.proofs.Starts.{starts-append}
 use Rattle.varint.proofs.Encode.{encode-more, encode-none}

@@ -1,6 +1,6 @@
 -- The bytes from a position on, as a field: what each step of finding its end and of spelling its number shows, and the cases of `fieldAt` by the
 -- tests of the code.
-use mathlib.Core.Path.{_≡_, refl, sym, ap, _∙_}
+use mathlib.Core.Path.{_≡_, sym, _∙_}
 use mathlib.Core.Logic.{by-cases}
 use mathlib.Core.Bool.{Bool, true, false, _&&_}
 use mathlib.Core.List.{List, [], _∷_}

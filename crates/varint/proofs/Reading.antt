@@ -1,19 +1,19 @@
 -- Reading a field: reading what was written gives the number back, and what is accepted was written so.
-use mathlib.Core.Path.{_≡_, refl, sym, ap, _∙_}
+use mathlib.Core.Path.{_≡_, refl, ap, _∙_}
 use mathlib.Core.Bool.{Bool, true, false, not, _&&_}
-use mathlib.Core.List.{List, [], _∷_, _++_}
-use Prim.Native.Nat.{ℕ, suc, _+_, _-_, _≤_, _<_}
+use mathlib.Core.List.{List, _++_}
+use Prim.Native.Nat.{ℕ, _+_, _≤_, _<_}
 use native.Mathlib.Omega.{arith}
-use lib.Dec.{ltb, leb, eqb}
-use lib.ListN.{length, getD, drop, length-drop, length-append}
-use lib.Seq.{drop-drop, drop-append-seam, getD-drop}
-use borrow.Author.Tests.{lt-ltb, le-leb, lt-leb, le-ltb, ltb-true, leb-true, leb-false, eqb-true, eqb-false, not-false}
+use lib.Dec.{ltb, leb}
+use lib.ListN.{length, drop, length-drop, length-append}
+use lib.Seq.{drop-drop}
+use borrow.Author.Tests.{lt-ltb, le-leb, lt-leb, ltb-true, leb-true, not-false}
 use Rattle.meaning.specs.Sets.{pick}
 use Rattle.meaning.specs.Record.{varint}
 use Rattle.varint.specs.Field.{lead, value, starts, fieldBound, Reading, accepted, refused, fieldOf, fieldAt}
-use Rattle.varint.proofs.Groups.{varint-least, varint-most}
-use Rattle.varint.proofs.Starts.{and-left, and-right, and-not, starts-self, starts-yes}
-use Rattle.varint.proofs.Form.{Bytes, varint-value, varint-lead, form-lead, form-last, shortest-form}
+use Rattle.varint.proofs.Groups.{varint-least}
+use Rattle.varint.proofs.Starts.{and-left, and-right, starts-self, starts-yes}
+use Rattle.varint.proofs.Form.{varint-value, varint-lead}
 
 -- ---- the cases of fieldOf
 module _ (l : List ℕ) (at lo hi : ℕ) where

@@ -1,7 +1,7 @@
 -- What reading a field at a position of a record finds, and what comparing one finds: 01's "Record" and "Reading a record".
 use mathlib.Core.Bool.{Bool, true, false, not, _&&_}
 use mathlib.Core.List.{List, [], _∷_}
-use Prim.Native.Nat.{ℕ, zero, suc, _+_, _-_, _*_}
+use Prim.Native.Nat.{ℕ, suc, _+_, _-_, _*_}
 use lib.Dec.{ltb, leb, eqb}
 use lib.ListN.{length, drop}
 use Rattle.meaning.specs.Sets.{pick}
@@ -39,8 +39,13 @@ fieldBound = 4294967296
 
 -- a number with the position after it, or a refusal with its number
 pub data Reading : Type 0 where
-  accepted : ℕ → ℕ → Reading
-  refused : ℕ → Reading
+  accepted : (value next : ℕ) → Reading
+  refused : (number : ℕ) → Reading
+
+-- the number of the refusal; 0 is no refusal
+abbrev pub refusalOf : Reading → ℕ
+refusalOf (accepted v next) = 0
+refusalOf (refused number) = number
 
 -- what reading finds in the bytes l, the first of which is at the position `at`. 20: they end before one with its top bit clear, however many
 -- came; 21: they do not begin with the shortest form of the number that they spell, or it is too large; 22: it is not one of lo to hi

@@ -6,7 +6,7 @@ ghost use Prim.Native.Nat.{_+_, _≤_, _<_};
 ghost use lib.Dec.{ltb, eqb};
 ghost use lib.ListN.{length, take, drop, getD};
 ghost use Rattle.meaning.specs.Record.{varint};
-ghost use Rattle.varint.specs.Field.{lead, value, fieldAt, sameAt, numberOf, reading, comparison};
+ghost use Rattle.varint.specs.Field.{lead, value, fieldAt, sameAt, numberOf, refusalOf, reading, comparison};
 
 // Why a field is refused. `numberOf` gives 01's number.
 pub enum Fault {
@@ -32,14 +32,23 @@ pub enum Comparison {
     Different,
 }
 
-// 01's number of a fault.
-pub fn fault_number(f: Fault) -> u32
+fn number(f: Fault) -> u32
     ensures { λ r. ⌜ r ≡ numberOf f ⌝ }
 {
     match f {
         Fault::Unended => 20,
         Fault::Malformed => 21,
         Fault::OutOfRange => 22,
+    }
+}
+
+// 01's number of the refusal; 0 for a field that was read.
+pub fn refusal(f: Field) -> u32
+    ensures { λ r. ⌜ r ≡ refusalOf (reading f) ⌝ }
+{
+    match f {
+        Field::Value(_, _) => 0,
+        Field::Refused(fault) => number(fault),
     }
 }
 

@@ -1,7 +1,7 @@
 -- `ink::ink_percentage` meets its contract: the whole table passes the test of its rule.
 -- Assumes nothing.
 use mathlib.Core.List.{List}
-use Prim.Native.Nat.{ℕ, _<_}
+use Prim.Native.Nat.{ℕ}
 use borrow.Author.Needs.{needs}
 use Rattle.ink.proofs.Table.{every, right, percentages}
 use Rattle.ink.proofs.ink_percentage.Statement.{statement}

@@ -5,8 +5,6 @@ use borrow.Author.Tests.{lt-ltb, le-ltb}
 use borrow.Author.Needs.{needs}
 use Rattle.varint.proofs.byte_is.Statement.{statement}
 use Rattle.varint.proofs.byte_is.Tie as tie
-use Rattle.varint.proofs.byte_is.Reads as reads
-use Rattle.varint.proofs.byte_is.Lts as lts
 
 shared-slice-read-result : tie.Need-shared-slice-read-result
 shared-slice-read-result c = search needs

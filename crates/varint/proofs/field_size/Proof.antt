@@ -5,8 +5,6 @@ use native.Mathlib.Omega.{arith}
 use Rattle.varint.proofs.Groups.{groups-low, groups-high}
 use Rattle.varint.proofs.field_size.Statement.{statement}
 use Rattle.varint.proofs.field_size.Tie as tie
-use Rattle.varint.proofs.field_size.Reads as reads
-use Rattle.varint.proofs.field_size.Lts as lts
 
 returns : tie.Need-returns
 returns c = let v = c .before .args .v in rw (groups-low 4 v (omega arith))

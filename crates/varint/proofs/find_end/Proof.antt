@@ -11,8 +11,6 @@ use Rattle.varint.specs.Field.{lead}
 use Rattle.varint.proofs.Position.{lead-here, lead-next, lead-none}
 use Rattle.varint.proofs.find_end.Statement.{statement}
 use Rattle.varint.proofs.find_end.Tie as tie
-use Rattle.varint.proofs.find_end.Reads as reads
-use Rattle.varint.proofs.find_end.Lts as lts
 
 abbrev Inv-loop : tie.InvT-loop
 Inv-loop s at i₀ i = i + lead (drop i s) ≡ at + lead (drop at s)

@@ -1,6 +1,6 @@
 -- `varint::put_field` meets its contract. The loop's invariant: what is left to be stored, stored on the list as it is, gives the whole.
 -- Assumes nothing.
-use mathlib.Core.Path.{_≡_, _∙_}
+use mathlib.Core.Path.{_∙_}
 use native.Mathlib.Omega.{arith}
 use borrow.Author.Needs.{needs}
 use denote.Ref.{now}
@@ -10,8 +10,6 @@ use Rattle.meaning.specs.Record.{varint}
 use Rattle.varint.proofs.Writing.{Left, left-first, left-more, left-ends, left-last}
 use Rattle.varint.proofs.put_field.Statement.{statement}
 use Rattle.varint.proofs.put_field.Tie as tie
-use Rattle.varint.proofs.put_field.Reads as reads
-use Rattle.varint.proofs.put_field.Lts as lts
 
 abbrev Inv-loop : tie.InvT-loop
 Inv-loop out₀ at v i₀ x₀ out i x = Left out₀ at v out i x

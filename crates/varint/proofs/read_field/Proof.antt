@@ -7,11 +7,6 @@ use Rattle.varint.proofs.Position.{Formed, read-unended, read-many, rea
 use borrow.Author.Needs.{needs}
 use Rattle.varint.proofs.read_field.Statement.{statement}
 use Rattle.varint.proofs.read_field.Tie as tie
-use Rattle.varint.proofs.read_field.Reads as reads
-use Rattle.varint.proofs.read_field.Lts as lts
-use Rattle.varint.proofs.find_end.Reads as find-end-reads
-use Rattle.varint.proofs.value_at.Reads as value-at-reads
-use Rattle.varint.proofs.zero_last.Reads as zero-last-reads
 
 -- past the tests of the form
 formed : (c : tie.Else4) → Formed (now (c .before .before .before .before .before .before .before .before .before .args .s)) (c .before .before .before .before .before .before .before .before .before .args .at) (c .before .before .before .before .before .before .before .find-end .result) (c .before .value-at .result)

@@ -10,9 +10,6 @@ use lib.ListN.{length}
 use Rattle.varint.proofs.Comparing.{Compared, compared-first, compared-inside, compared-more, compared-differs, compared-same, compared-last-differs}
 use Rattle.varint.proofs.same_field.Statement.{statement}
 use Rattle.varint.proofs.same_field.Tie as tie
-use Rattle.varint.proofs.same_field.Reads as reads
-use Rattle.varint.proofs.same_field.Lts as lts
-use Rattle.varint.proofs.byte_is.Reads as byte-is-reads
 
 abbrev Inv-loop : tie.InvT-loop
 Inv-loop s at v i₀ x₀ i x = Compared s at v i x
@@ -36,7 +33,7 @@ add-i : tie.Need-add-i Inv-loop μ-loop
 add-i c =
     let l = c .before .before .before in
     let h : l .loop .i < length (now (l .before .before .args .s)) =
-        compared-inside _ _ _ _ _ (l .loop .inv) (128 + l .loop .x % 128) (sym (c .before .byte-is .ensures) ∙ not-false _ (c .if1 .left)) in
+    compared-inside _ _ _ _ _ (l .loop .inv) (128 + l .loop .x % 128) (sym (c .before .byte-is .ensures) ∙ not-false _ (c .if1 .left)) in
     search needs
 
 loop-less : tie.Need-loop-less Inv-loop μ-loop
@@ -55,7 +52,7 @@ add-t12 : tie.Need-add-t12 Inv-loop μ-loop
 add-t12 c =
     let l = c .before .before .before in
     let h : l .loop .i < length (now (l .before .before .args .s)) =
-        compared-inside _ _ _ _ _ (l .loop .inv) (l .loop .x) (sym (c .before .byte-is2 .ensures) ∙ not-false _ (c .if2 .left)) in
+    compared-inside _ _ _ _ _ (l .loop .inv) (l .loop .x) (sym (c .before .byte-is2 .ensures) ∙ not-false _ (c .if2 .left)) in
     search needs
 
 returns-3 : tie.Need-returns-3 Inv-loop μ-loop

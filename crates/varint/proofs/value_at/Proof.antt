@@ -1,6 +1,5 @@
 -- `varint::value_at` meets its contract. The loop's invariant: v is the number that the groups from i on spell.
 -- Assumes nothing.
-use mathlib.Core.Path.{_≡_}
 use Prim.Native.Nat.{_-_, _≤_, _<_}
 use native.Mathlib.Omega.{arith}
 use borrow.Author.Needs.{needs}
@@ -9,9 +8,6 @@ use lib.ListN.{getD}
 use Rattle.varint.proofs.Position.{Spelt, top-set, spelt-last, spelt-small, spelt-back, spelt-all}
 use Rattle.varint.proofs.value_at.Statement.{statement}
 use Rattle.varint.proofs.value_at.Tie as tie
-use Rattle.varint.proofs.value_at.Reads as reads
-use Rattle.varint.proofs.value_at.Lts as lts
-use Rattle.varint.proofs.wide.Reads as wide-reads
 
 abbrev Inv-loop : tie.InvT-loop
 Inv-loop s at end i₀ v₀ i v = Spelt s at end i v
@@ -32,7 +28,7 @@ sub-i : tie.Need-sub-i Inv-loop μ-loop
 sub-i c = search needs
 
 mul-v : tie.Need-mul-v Inv-loop μ-loop
-mul-v c = 
+mul-v c =
     let st = c .before .before .before .before .before in
     let h : c .before .loop .v < 268435456 = spelt-small _ _ _ (st .pre .0) (st .pre .1) _ _ (st .pre .2) (c .before .loop .inv) (c .loop-test .taken) in
     search needs
@@ -44,14 +40,14 @@ wide-requires-2 : tie.Need-wide-requires-2 Inv-loop μ-loop
 wide-requires-2 c κs = tt
 
 sub-v : tie.Need-sub-v Inv-loop μ-loop
-sub-v c = 
+sub-v c =
     let l = c .before .before .before in
     let st = l .before .before .before .before in
     let h : 128 ≤ getD (now (st .args .s)) (l .loop .i - 1) 0 = top-set _ _ _ (st .pre .0) (st .pre .1) _ (omega arith) (omega arith) in
     search needs
 
 add-v : tie.Need-add-v Inv-loop μ-loop
-add-v c = 
+add-v c =
     let l = c .before .before .before in
     let st = l .before .before .before .before in
     let h : l .loop .v < 268435456 = spelt-small _ _ _ (st .pre .0) (st .pre .1) _ _ (st .pre .2) (l .loop .inv) (c .before .before .loop-test .taken) in
@@ -61,7 +57,7 @@ loop-less : tie.Need-loop-less Inv-loop μ-loop
 loop-less c = search needs
 
 loop-again : tie.Need-loop-again Inv-loop μ-loop
-loop-again c = 
+loop-again c =
     let l = c .before .before .before in
     let st = l .before .before .before .before in
     spelt-back _ _ _ (st .pre .0) (st .pre .1) _ _ _ (λ k. omega (arith, c .before .shared-slice-known3 .given k)) (l .loop .inv) (c .before .before .loop-test .taken) (c .wide2 .ensures)

@@ -3,8 +3,6 @@
 use borrow.Author.Tests.{lt-ltb, le-ltb}
 use Rattle.varint.proofs.zero_last.Statement.{statement}
 use Rattle.varint.proofs.zero_last.Tie as tie
-use Rattle.varint.proofs.zero_last.Reads as reads
-use Rattle.varint.proofs.zero_last.Lts as lts
 
 returns : tie.Need-returns
 returns c = rw (lt-ltb _ _ (c .if1 .taken))
