@@ -108,17 +108,17 @@ pub record Formed (s : List ℕ) (at end v : ℕ) : Type 0 where
   pub small : v < fieldBound
   pub form : starts (varint (value (drop at s))) (drop at s) ≡ true
 
-module _ (s : List ℕ) (at lo hi end : ℕ) (ends : end ≡ at + lead (drop at s)) where
-  pub read-unended : length s ≤ end → refused 20 ≡ fieldAt s at lo hi
-  read-unended h = sym (field-unended (drop at s) at lo hi (omega (arith, length-drop at s)))
+pub read-unended : (s : List ℕ) (at lo hi end : ℕ) → end ≡ at + lead (drop at s) → length s ≤ end → refused 20 ≡ fieldAt s at lo hi
+read-unended s at lo hi end ends h = sym (field-unended (drop at s) at lo hi (omega (arith, length-drop at s)))
 
-  module _ (h : end < length s) where
-    inside : lead (drop at s) < length (drop at s)
-    inside = omega (arith, length-drop at s)
+module _ (s : List ℕ) (at end : ℕ) (ends : end ≡ at + lead (drop at s)) (h : end < length s) where
+  inside : lead (drop at s) < length (drop at s)
+  inside = omega (arith, length-drop at s)
 
-    last : getD (drop at s) (lead (drop at s)) 0 ≡ getD s end 0
-    last = rw (getD-drop, ends)
+  last : getD (drop at s) (lead (drop at s)) 0 ≡ getD s end 0
+  last = rw (getD-drop, ends)
 
+  module _ (lo hi : ℕ) where
     -- no bytes that begin with the form of a number that is small enough come this way
     malformed : (starts (varint (value (drop at s))) (drop at s) ≡ true → value (drop at s) < fieldBound → ⊥) → refused 21 ≡ fieldAt s at lo hi
     malformed not-form =
@@ -134,24 +134,23 @@ module _ (s : List ℕ) (at lo hi end : ℕ) (ends : end ≡ at + lead (drop at 
         let zero : getD s end 0 ≡ 0 = eqb-true (getD s end 0) 0 (and-right (ltb at end) _ z) in
         malformed (λ f v. omega (arith, last, form-last (drop at s) v f (omega arith)))
 
-    module _ (v : ℕ) (is : v ≡ value (drop at s)) where
-      pub read-large : 4294967295 < v → refused 21 ≡ fieldAt s at lo hi
-      read-large m = malformed (λ f small. omega arith)
+    pub read-large : (v : ℕ) → v ≡ value (drop at s) → fieldBound ≤ v → refused 21 ≡ fieldAt s at lo hi
+    read-large v is m = malformed (λ f small. omega arith)
 
-      -- bytes of which no test so far refuses
-      pub read-formed : Bytes s → zeroLast s at end ≡ false → v ≤ 4294967295 → Formed s at end v
-      read-formed bytes z small = record {
-        ends = ends;
-        inside = inside;
-        spells = is;
-        small = omega arith;
-        form =
-            shortest-form (drop at s) (λ i. rw getD-drop (bytes (at + i))) inside
-            (λ several. let t : eqb (getD s end 0) 0 ≡ false = rw (lt-ltb at end (omega arith)) at z in
-            let nonzero : getD s end 0 ≡ 0 → ⊥ = eqb-false (getD s end 0) 0 t in
-            omega (arith, last))
-            (omega arith);
-      }
+  -- no test of the form refuses
+  pub read-formed : (v : ℕ) → v ≡ value (drop at s) → Bytes s → zeroLast s at end ≡ false → v < fieldBound → Formed s at end v
+  read-formed v is bytes z small = record {
+    ends = ends;
+    inside = inside;
+    spells = is;
+    small = small;
+    form =
+        shortest-form (drop at s) (λ i. rw getD-drop (bytes (at + i))) inside
+        (λ several. let t : eqb (getD s end 0) 0 ≡ false = rw (lt-ltb at end (omega arith)) at z in
+        let nonzero : getD s end 0 ≡ 0 → ⊥ = eqb-false (getD s end 0) 0 t in
+        omega (arith, last))
+        (omega arith);
+  }
 
 module _ (s : List ℕ) (at lo hi end v : ℕ) (f : Formed s at end v) where
   outside : (lo ≤ v → v ≤ hi → ⊥) → refused 22 ≡ fieldAt s at lo hi

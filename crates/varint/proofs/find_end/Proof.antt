@@ -25,7 +25,7 @@ shared-slice-read-if1 : tie.Need-shared-slice-read-if1 Inv-loop μ-loop
 shared-slice-read-if1 c = search needs
 
 returns : tie.Need-returns Inv-loop μ-loop
-returns c = let l = c .before .before .before in omega (arith, lead-here (now (l .before .args .s)) (l .loop .i) (c .before .before .loop-test .taken) (c .if1 .taken))
+returns c = let l = c .before .before .before in omega (arith, lead-here (now (l .before .args .s)) (l .loop .i) (omega arith) (omega arith))
 
 add-i : tie.Need-add-i Inv-loop μ-loop
 add-i c = search needs
@@ -34,10 +34,10 @@ loop-less : tie.Need-loop-less Inv-loop μ-loop
 loop-less c = search needs
 
 loop-again : tie.Need-loop-again Inv-loop μ-loop
-loop-again c = let l = c .before .before .before in rw add-one (omega (arith, lead-next (now (l .before .args .s)) (l .loop .i) (c .before .before .loop-test .taken) (c .if1 .left)))
+loop-again c = let l = c .before .before .before in rw add-one (omega (arith, lead-next (now (l .before .args .s)) (l .loop .i) (omega arith) (omega arith)))
 
 returns-2 : tie.Need-returns-2 Inv-loop μ-loop
-returns-2 c = omega (arith, lead-none (now (c .before .before .args .s)) (c .before .loop .i) (c .loop-test .left))
+returns-2 c = omega (arith, lead-none (now (c .before .before .args .s)) (c .before .loop .i) (omega arith))
 
 pub find-end-spec : {M : Type 1} → statement M
 find-end-spec =
