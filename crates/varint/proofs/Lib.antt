@@ -1,3 +1,6 @@
+-- The laws of a field. For the crates above: Groups (sizes and bytes of a form), Starts, Form (what a form spells), Reading (reading what was
+-- written, and what was accepted), Encode (several fields), Loops (measuring, writing and comparing them). Position, Writing and Comparing are for
+-- the functions of this crate; Examples computes the definition.
 pub mod Groups
 pub mod Starts
 pub mod Form
