@@ -1,0 +1,4 @@
+-- Laws of numbering.
+pub mod Places
+pub mod Flooding
+pub mod Passes
