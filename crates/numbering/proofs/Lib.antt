@@ -2,3 +2,4 @@
 pub mod Places
 pub mod Flooding
 pub mod Passes
+pub mod Stages
