@@ -1,0 +1,7 @@
+-- The invariant of flooding is kept by each step, and the functions take those steps.
+pub mod Counting
+pub mod Pushing
+pub mod Closing
+pub mod Ending
+pub mod Stacking
+pub mod Measure

@@ -1,0 +1,2 @@
+-- Flooding: the invariant of the machine, and what its functions ask and leave.
+pub mod Machine
