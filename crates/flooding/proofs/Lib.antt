@@ -5,3 +5,5 @@ pub mod Closing
 pub mod Ending
 pub mod Stacking
 pub mod Measure
+pub mod Linking
+pub mod Steps

@@ -16,6 +16,7 @@ use Rattle.meaning.specs.Sets.{area, has, sum}
 use Rattle.meaning.specs.Paths.{Joined}
 use Rattle.meaning.specs.Opening.{lighter}
 use Rattle.meaning.specs.Nodes.{node}
+use Rattle.columns.specs.Columns.{Put}
 use Rattle.columns.specs.Layout.{Alike, Up}
 
 -- a pixel that has a node
@@ -80,6 +81,25 @@ pub record Next (cnt : ℕ → ℕ) (l u : ℕ) : Type 0 where
 pub record Chain (L : ℕ) (cnt next : ℕ → ℕ) (u : ℕ) : Type 0 where
   pub tip : Next cnt L u
   pub links : (l : ℕ) → l < L → 0 < cnt l → Next cnt l (next l)
+
+-- next′ is next with m between the open level `above` and its next
+pub record Inserted (L : ℕ) (cnt next next′ : ℕ → ℕ) (m : ℕ) : Type 0 where
+  pub above : ℕ
+  pub inside : above < L
+  pub higher : m < above
+  pub live : 0 < cnt above
+  pub gap : next above ≤ m
+  pub here : next′ m ≡ next above
+  pub linked : next′ above ≡ m + 1
+  pub others : (j : ℕ) → j < L → (j ≡ m → ⊥) → (j ≡ above → ⊥) → next′ j ≡ next j
+
+-- next′ is next with m in its place, on the top of the chain or in it
+abbrev pub Linked : ℕ → (ℕ → ℕ) → (ℕ → ℕ) → (ℕ → ℕ) → ℕ → ℕ → Type 0
+Linked L cnt next next′ m u = ((u ≤ m) × Put L next next′ m u) ⊎ Inserted L cnt next next′ m
+
+-- u′ is the lightest open level plus one when m is open too
+abbrev pub Raised : ℕ → ℕ → ℕ → Type 0
+Raised m u u′ = ((u ≤ m) × (u′ ≡ m + 1)) ⊎ ((m < u) × (u′ ≡ u))
 
 -- ---- the stacks of the levels, in one column: level m's part begins at start m, the number of pixels darker than m
 
