@@ -7,3 +7,4 @@ pub mod Stacking
 pub mod Measure
 pub mod Linking
 pub mod Steps
+pub mod Effects
