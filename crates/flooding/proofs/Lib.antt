@@ -8,3 +8,5 @@ pub mod Measure
 pub mod Linking
 pub mod Steps
 pub mod Effects
+pub mod Pushes
+pub mod Looks

@@ -65,7 +65,7 @@ pub record Machine (k wd ht n : ℕ) (w t : List ℕ) (u c : ℕ) : Type 0 where
   pub room : Room w n
   pub desk : Room t LEVELS
   pub mach : Mach n (touch k wd) (col GREY n w) LEVELS (col OWN n w) (stack wd n w) (col FLOODAREA n w) (col FLOODPARENT n w)
-    (level COUNT t) (level NAME t) (level TOP t) (level START t) (level NEXT t) u (level NODES t 0) c
+      (level COUNT t) (level NAME t) (level TOP t) (level START t) (level NEXT t) u (level NODES t 0) c
 
 -- what every step leaves
 pub record Kept (n : ℕ) (w w′ t t′ : List ℕ) : Type 0 where
@@ -112,10 +112,10 @@ pub record Named (t t′ : List ℕ) (m u v : ℕ) : Type 0 where
   pub fits : v < 4294967296
   pub adds : Put LEVELS (level COUNT t) (level COUNT t′) m (level COUNT t m + 1)
   pub choose : ((level COUNT t m ≡ 0) × (v ≡ level NODES t 0) × (level NODES t′ 0 ≡ level NODES t 0 + 1))
-    ⊎ ((0 < level COUNT t m) × (v ≡ level NAME t m) × (level NODES t′ 0 ≡ level NODES t 0))
+      ⊎ ((0 < level COUNT t m) × (v ≡ level NAME t m) × (level NODES t′ 0 ≡ level NODES t 0))
   pub names : Put LEVELS (level NAME t) (level NAME t′) m v
   pub chains : ((level COUNT t m ≡ 0) × Linked LEVELS (level COUNT t) (level NEXT t) (level NEXT t′) m u)
-    ⊎ ((0 < level COUNT t m) × ((j : ℕ) → j < LEVELS → level NEXT t′ j ≡ level NEXT t j))
+      ⊎ ((0 < level COUNT t m) × ((j : ℕ) → j < LEVELS → level NEXT t′ j ≡ level NEXT t j))
   pub tops : level TOP t′ ≡ level TOP t
   pub starts : level START t′ ≡ level START t
 
