@@ -10,3 +10,5 @@ pub mod Steps
 pub mod Effects
 pub mod Pushes
 pub mod Looks
+pub mod Closes
+pub mod Prepares

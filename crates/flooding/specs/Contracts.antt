@@ -6,12 +6,12 @@ use mathlib.Core.Bool.{Bool, true}
 use mathlib.Core.List.{List}
 use Prim.Native.Nat.{ℕ, suc, _+_, _*_, _/_, _%_, _≤_, _<_}
 use lib.Dec.{T, ltb, eqb}
-use Rattle.meaning.specs.Sets.{pick, area}
+use Rattle.meaning.specs.Sets.{pick, area, sum}
 use Rattle.meaning.specs.Plate.{touch, connectivityFits, greatestGrey}
 use Rattle.columns.specs.Columns.{col, Room, Frame, Put, Stored}
 use Rattle.columns.specs.Layout.{GREY, OWN, STACK, FLOODAREA, FLOODPARENT, FloodedColumns}
 use Rattle.grid.specs.Directions.{Beside}
-use Rattle.flooding.specs.Machine.{Mach, Chain, Linked, Raised, Starts, work}
+use Rattle.flooding.specs.Machine.{Mach, Chain, Linked, work}
 
 -- the number of levels
 abbrev pub LEVELS : ℕ
@@ -147,8 +147,8 @@ pub record Pushed (n : ℕ) (w w′ t t′ : List ℕ) (q m e u : ℕ) : Type 0 
 -- ---- a step
 
 -- between two steps: nothing is in hand
-abbrev pub Ready : ℕ → ℕ → ℕ → ℕ → List ℕ → List ℕ → ℕ → Type 0
-Ready k wd ht n w t h = Machine k wd ht n w t (h + 1) n
+pub record Ready (k wd ht n : ℕ) (w t : List ℕ) (h : ℕ) : Type 0 where
+  pub machine : Machine k wd ht n w t (h + 1) n
 
 -- the pixel in column x of row y is in hand, a pixel of the lightest open level
 pub record Looking (k wd ht n : ℕ) (w t : List ℕ) (h x y : ℕ) : Type 0 where
@@ -209,16 +209,21 @@ pub record Counted (n : ℕ) (w w′ t t′ : List ℕ) (p : ℕ) : Type 0 where
   pub counts : (m : ℕ) → m < LEVELS → level START t′ m ≡ area p (λ (q : ℕ). eqb (col GREY n w q) m)
   pub off : (d : ℕ) → d < 8 → (d ≡ START → ⊥) → level d t′ ≡ level d t
 
--- no level is open, and no stack begins
+-- an empty table
 pub record Clean (t : List ℕ) : Type 0 where
   pub desk : Room t LEVELS
   pub zeros : (d m : ℕ) → d < 8 → m < LEVELS → level d t m ≡ 0
 
--- the levels below m have the starts and tops of their stacks, s is the number of pixels darker than m, and START has the others' counts
-pub record Parted (n : ℕ) (f : ℕ → ℕ) (t t′ : List ℕ) (m s : ℕ) : Type 0 where
+-- START holds the sums of the values before, below m, and TOP the same; s is the sum of the first m
+pub record Summed (t t′ : List ℕ) (m s : ℕ) : Type 0 where
   pub table : Frame LEVELS t t′
-  pub sum-is : s ≡ area n (λ (q : ℕ). ltb (f q) m)
-  pub starts : Starts n m f (level START t′)
+  pub sum-is : s ≡ sum m (level START t)
+  pub starts : (l : ℕ) → l < m → level START t′ l ≡ sum l (level START t)
   pub tops : (l : ℕ) → l < m → level TOP t′ l ≡ level START t′ l
-  pub rest : (l : ℕ) → m ≤ l → l < LEVELS → level START t′ l ≡ area n (λ (q : ℕ). eqb (f q) l)
+  pub rest : (l : ℕ) → m ≤ l → l < LEVELS → level START t′ l ≡ level START t l
   pub off : (d : ℕ) → d < 8 → (d ≡ START → ⊥) → (d ≡ TOP → ⊥) → level d t′ ≡ level d t
+
+-- the sums fit
+pub record Summable (t : List ℕ) : Type 0 where
+  pub desk : Room t LEVELS
+  pub small : sum LEVELS (level START t) ≤ 16777216
