@@ -1,0 +1,52 @@
+-- What reading a plate file answers: 01's refusals in their order, and the plate.
+use mathlib.Core.Bool.{Bool, true, false, not}
+use mathlib.Core.List.{List, []}
+use Prim.Native.Nat.{ℕ, _*_}
+use lib.Dec.{eqb, ltb}
+use lib.ListN.{length}
+use Rattle.meaning.specs.Sets.{pick}
+use Rattle.meaning.specs.Plate.{gridFits, greatestGrey}
+use Rattle.meaning.specs.Answers.{refuse, outRefusal}
+use Rattle.pgm.specs.Grammar.{Parsed, sound, faulty, header}
+use Rattle.pgm.specs.declared.Fault.{Fault}
+use Rattle.pgm.specs.declared.Fault.the-variants.{Letters, GapOrNumber}
+use Rattle.pgm.specs.declared.PgmRead.{PgmRead}
+
+-- 10 it does not open with "P5"; 11 a gap or number is missing or malformed, or the last blank absent
+abbrev pub faultNumber : Fault → ℕ
+faultNumber Letters = 10
+faultNumber GapOrNumber = 11
+
+-- behind a sound header: 2 sizes beyond the grid; 12 the third number is not 255; 14 raster short; 15 bytes left over; 5 output shorter
+-- than the pixels. `left` is how many bytes follow the header, `room` the output's length
+unfoldable pub plateRefusal : ℕ → ℕ → ℕ → ℕ → ℕ → ℕ
+unfolding gridFits
+plateRefusal w h greatest left room =
+    refuse (not (gridFits w h)) 2 (refuse (not (eqb greatest greatestGrey)) 12
+    (refuse (ltb left (w * h)) 14 (refuse (ltb (w * h) left) 15 (outRefusal (w * h) room 0))))
+
+-- a refusal: its number, and zeros elsewhere
+abbrev pub refused : ℕ → PgmRead
+refused n = record { refusal = n; width = 0; height = 0 }
+
+-- a refusal where there is one, else the sizes
+abbrev pub answered : ℕ → ℕ → ℕ → PgmRead
+answered n w h = pick (eqb n 0) (record { refusal = 0; width = w; height = h }) (refused n)
+
+abbrev pub answerOf : Parsed → ℕ → PgmRead
+answerOf (sound w h greatest raster) room = answered (plateRefusal w h greatest (length raster) room) w h
+answerOf (faulty f) room = refused (faultNumber f)
+
+-- what reading the file answers, with an output of length `room`
+unfoldable pub readPgm : List ℕ → ℕ → PgmRead
+unfolding header plateRefusal
+readPgm file room = answerOf (header file) room
+
+abbrev pub rasterBehind : Parsed → List ℕ
+rasterBehind (sound w h greatest raster) = raster
+rasterBehind (faulty f) = []
+
+-- the raster: the bytes behind the header
+unfoldable pub rasterOf : List ℕ → List ℕ
+unfolding header
+rasterOf file = rasterBehind (header file)
