@@ -2,7 +2,7 @@
 use mathlib.Core.Path.{_≡_, refl, sym, ap, _∙_}
 use mathlib.Core.Bool.{Bool, true, false}
 use mathlib.Core.List.{List, [], _∷_}
-use Prim.Native.Nat.{ℕ, suc, _+_, _≤_, _<_}
+use Prim.Native.Nat.{ℕ, zero, suc, _+_, _-_, _≤_, _<_}
 use native.Mathlib.Numerals.{add-one}
 use native.Mathlib.Omega.{arith}
 use lib.ListN.{length, drop, getD, drop-of-length-le, length-drop}
@@ -61,6 +61,12 @@ module _ (test : ℕ → Bool) (b : ℕ) (s : List ℕ) where
   fails-cons true e tail h = rw (front-hit test b s e) (tail (let h′ = rw (front-hit test b s e) at h in omega arith))
   fails-cons false e tail h = rw (front-miss test b s e) e
 
+  passes-cons : (t : Bool) → test b ≡ t → ((k : ℕ) → k < front test s → test (getD s k 0) ≡ true) → (k : ℕ) → k < front test (b ∷ s)
+      → test (getD (b ∷ s) k 0) ≡ true
+  passes-cons true e tail zero h = e
+  passes-cons true e tail (suc k) h = tail k (let h′ = rw (front-hit test b s e) at h in omega arith)
+  passes-cons false e tail k h = absurd (let h′ = rw (front-miss test b s e) at h in omega arith)
+
   past-cons : {X : Type 0} (f : List ℕ → X) → ((b : ℕ) (s : List ℕ) → test b ≡ true → f (b ∷ s) ≡ f s)
       → (t : Bool) → test b ≡ t → f s ≡ f (drop (front test s) s) → f (b ∷ s) ≡ f (drop (front test (b ∷ s)) (b ∷ s))
   past-cons f same true e tail = rw (front-hit test b s e) (same b s e ∙ tail)
@@ -76,6 +82,11 @@ module _ (test : ℕ → Bool) where
   unfolding front
   front-fails [] h = absurd (omega arith)
   front-fails (b ∷ s) h = fails-cons test b s (test b) refl (front-fails s) h
+
+  front-passes : (s : List ℕ) (k : ℕ) → k < front test s → test (getD s k 0) ≡ true
+  unfolding front
+  front-passes [] k h = absurd (omega arith)
+  front-passes (b ∷ s) k h = passes-cons test b s (test b) refl (front-passes s) k h
 
   past-front : {X : Type 0} (f : List ℕ → X) → ((b : ℕ) (s : List ℕ) → test b ≡ true → f (b ∷ s) ≡ f s) → (s : List ℕ)
       → f s ≡ f (drop (front test s) s)
@@ -96,6 +107,12 @@ module _ (test : ℕ → Bool) (s : List ℕ) (at i : ℕ) (is : i ≡ at + fron
     within = let m = front-within test (drop at s) in omega (arith, length-drop at s);
     fails = λ l. rw (is, ← getD-drop) (front-fails test (drop at s) (omega (arith, length-drop at s)));
   }
+
+  -- every byte from `at` to i passes
+  pub passes : (k : ℕ) → at ≤ k → k < i → test (getD s k 0) ≡ true
+  passes k l h =
+      let e : at + (k - at) ≡ k = omega arith in
+      rw (← e, ← getD-drop) (front-passes test (drop at s) (k - at) (omega arith))
 
   -- what a byte that passes does not change is the same at both places
   pub past : {X : Type 0} (f : List ℕ → X) → ((b : ℕ) (s : List ℕ) → test b ≡ true → f (b ∷ s) ≡ f s) → f (drop at s) ≡ f (drop i s)

@@ -1,12 +1,13 @@
 -- What reading a plate file answers: 01's refusals in their order, and the plate.
-use mathlib.Core.Bool.{Bool, true, false, not}
+use mathlib.Core.Path.{_≡_}
+use mathlib.Core.Bool.{not}
 use mathlib.Core.List.{List, []}
 use Prim.Native.Nat.{ℕ, _*_}
 use lib.Dec.{eqb, ltb}
 use lib.ListN.{length}
 use Rattle.meaning.specs.Sets.{pick}
 use Rattle.meaning.specs.Plate.{gridFits, greatestGrey}
-use Rattle.meaning.specs.Answers.{refuse, outRefusal}
+use Rattle.meaning.specs.Answers.{refuse, outRefusal, outAfter}
 use Rattle.pgm.specs.Grammar.{Parsed, sound, faulty, header}
 use Rattle.pgm.specs.declared.Fault.{Fault}
 use Rattle.pgm.specs.declared.Fault.the-variants.{Letters, GapOrNumber}
@@ -32,6 +33,11 @@ refused n = record { refusal = n; width = 0; height = 0 }
 -- a refusal where there is one, else the sizes
 abbrev pub answered : ℕ → ℕ → ℕ → PgmRead
 answered n w h = pick (eqb n 0) (record { refusal = 0; width = w; height = h }) (refused n)
+
+-- a plate is read behind a sound header: the answer r, and the output afterwards
+pub record ReadPlate (w h greatest : ℕ) (raster out : List ℕ) (r : PgmRead) (after : List ℕ) : Type 0 where
+  pub answer : r ≡ answered (plateRefusal w h greatest (length raster) (length out)) w h
+  pub output : after ≡ outAfter (plateRefusal w h greatest (length raster) (length out)) raster out
 
 abbrev pub answerOf : Parsed → ℕ → PgmRead
 answerOf (sound w h greatest raster) room = answered (plateRefusal w h greatest (length raster) room) w h

@@ -4,7 +4,7 @@ use mathlib.Core.Bool.{Bool, true, false, not, _&&_, _||_}
 use mathlib.Core.List.{List, [], _∷_}
 use Prim.Native.Nat.{ℕ, suc, _+_, _-_, _*_}
 use lib.Dec.{eqb, leb}
-use lib.ListN.{length, take, drop, getD}
+use lib.ListN.{take, drop}
 use Rattle.meaning.specs.Sets.{pick}
 use Rattle.pgm.specs.declared.Fault.{Fault}
 use Rattle.pgm.specs.declared.Fault.the-variants.{Letters, GapOrNumber}
@@ -56,11 +56,15 @@ unfolding blank
 oneBlank [] = malformed
 oneBlank (b ∷ s) = pick (blank b) (rest s) malformed
 
+-- one part of the grammar behind another
+abbrev pub andThen : Rest → (List ℕ → Rest) → Rest
+andThen (rest s) next = next s
+andThen malformed next = malformed
+
 -- a gap is a blank and then any mix of blanks and comments
 unfoldable pub gap : List ℕ → Rest
-unfolding blank mix
-gap [] = malformed
-gap (b ∷ s) = elim (blank b) [ true ↦ mix s | false ↦ malformed ]
+unfolding oneBlank mix
+gap s = andThen (oneBlank s) mix
 
 -- how many bytes at the front pass the test
 unfoldable pub front : (ℕ → Bool) → List ℕ → ℕ
@@ -79,7 +83,9 @@ number s = let n = front digit s in pick (leb 1 n && leb n 5) (found (decimal 0 
 
 -- "P5"
 unfoldable pub letters : List ℕ → Rest
-letters s = pick (eqb (getD s 0 0) 80 && eqb (getD s 1 0) 53) (rest (drop 2 s)) malformed
+letters [] = malformed
+letters (p ∷ []) = malformed
+letters (p ∷ five ∷ s) = pick (eqb p 80 && eqb five 53) (rest s) malformed
 
 -- a header with the raster behind it, or its first fault
 pub data Parsed : Type 0 where

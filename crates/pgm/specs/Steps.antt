@@ -3,7 +3,7 @@ use mathlib.Core.Path.{_≡_}
 use mathlib.Core.List.{List}
 use Prim.Native.Nat.{ℕ, _+_, _-_, _≤_}
 use lib.ListN.{length, drop}
-use Rattle.pgm.specs.Grammar.{Rest, rest, malformed, Found, found, missing, Parsed, sound, faulty, mix, letters, gap}
+use Rattle.pgm.specs.Grammar.{Rest, rest, malformed, Found, found, missing, Parsed, sound, faulty, digit, front, mix, gap}
 use Rattle.pgm.specs.declared.Cursor.{Cursor}
 use Rattle.pgm.specs.declared.Fault.the-variants.{Letters, GapOrNumber}
 use Rattle.pgm.specs.declared.Step.{Step}
@@ -30,9 +30,21 @@ abbrev pub openingStep : List ℕ → Rest → Step
 openingStep file (rest s) = gapStep file (gap s)
 openingStep file malformed = step.Faulty Letters
 
+-- the answer of a step that did not find what belongs there
+abbrev pub noHeader : Step → Header
+noHeader (step.Number v c) = head.Faulty GapOrNumber
+noHeader (step.Gap c) = head.Faulty GapOrNumber
+noHeader (step.Faulty f) = head.Faulty f
+
 abbrev pub headerStep : List ℕ → Parsed → Header
 headerStep file (sound w h g s) = head.Sound w h g (cursorAt file s)
 headerStep file (faulty f) = head.Faulty f
+
+-- from `at` to `end` stand one to five digits, and no digit behind them
+pub record Digits (file : List ℕ) (at end : ℕ) : Type 0 where
+  pub starts : at ≤ length file
+  pub ends : end ≡ at + front digit (drop at file)
+  pub few : end ≤ at + 5
 
 -- ---- skipping blanks and comments
 

@@ -1,0 +1,67 @@
+-- A plate behind a sound header.
+use mathlib.Core.Path.{_≡_, sym, ap, _∙_}
+use native.Mathlib.Omega.{arith}
+use borrow.Author.Needs.{needs}
+use denote.Ref.{now}
+use lib.ListN.{length, drop, length-drop}
+use Rattle.meaning.specs.Answers.{over}
+use Rattle.pgm.proofs.Sizes.{room-enough}
+use Rattle.pgm.proofs.Reading.{plate-refused, plate-read, part}
+use Rattle.pgm.proofs.read_plate.Statement.{statement}
+use Rattle.pgm.proofs.read_plate.Tie as tie
+
+sub-plate-refusal : tie.Need-sub-plate-refusal
+sub-plate-refusal c = search needs
+
+plate-refusal-requires : tie.Need-plate-refusal-requires
+plate-refusal-requires c κs = search needs
+
+refuse-requires : tie.Need-refuse-requires
+refuse-requires c κs = search needs
+
+returns : tie.Need-returns
+returns c =
+    let st = c .before .before .before .before .before in
+    plate-refused _ _ _ _ _ _ (length-drop (st .args .at) (now (st .args .file))) (c .before .before .plate-refusal .ensures) (c .before .if1 .taken)
+    (c .refuse .ensures)
+
+sub-copy-over : tie.Need-sub-copy-over
+sub-copy-over c = search needs
+
+part-copy-over-start : tie.Need-part-copy-over-start
+part-copy-over-start c = search needs
+
+part-copy-over-end : tie.Need-part-copy-over-end
+part-copy-over-end c = search needs
+
+copy-over-requires : tie.Need-copy-over-requires
+copy-over-requires c κs =
+    let st = c .before .before .before .before .before .before in
+    let room = room-enough _ _ _ _ _ (sym (c .before .before .before .plate-refusal .ensures) ∙ c .before .before .if1 .left) in
+    rw (part (now (st .args .file)) (st .args .at), length-drop (st .args .at) (now (st .args .file))) room
+
+same-length : tie.Need-same-length
+same-length c = search needs
+
+returns-2 : tie.Need-returns-2
+returns-2 c =
+    let st = c .before .before .before .before .before .before .before .before .before in
+    let s = now (st .args .file) in
+    plate-read _ _ _ _ _ _ (length-drop (st .args .at) s) (c .before .before .before .before .before .before .plate-refusal .ensures)
+    (c .before .before .before .before .before .if1 .left)
+    (rw (part s (st .args .at)) at (c .before .before .copy-over .ensures))
+
+pub read-plate-spec : {M : Type 1} → statement M
+read-plate-spec =
+    tie.close
+    (tie.spec
+    sub-plate-refusal
+    plate-refusal-requires
+    refuse-requires
+    returns
+    sub-copy-over
+    part-copy-over-start
+    part-copy-over-end
+    copy-over-requires
+    same-length
+    returns-2)
