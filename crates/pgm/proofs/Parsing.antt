@@ -7,15 +7,17 @@ use native.Mathlib.Omega.{arith}
 use types.Run.{OneOf}
 use denote.Enum.Declared.{tagOf}
 use lib.ListN.{length, drop}
-use Rattle.pgm.specs.Grammar.{Rest, rest, malformed, Found, found, missing, Parsed, sound, faulty, mix, gap, oneBlank, andThen, number, letters, onRest, onGap, onNumber}
+use Rattle.pgm.specs.Grammar.{Rest, rest, malformed, Found, found, missing, Parsed, sound, faulty, mix, gap, oneBlank, andThen, number, letters, onRest, onGap, onNumber, header}
 use Rattle.pgm.specs.Steps.{cursorAt, gapStep, numberStep, openingStep, noHeader, headerStep}
 use Rattle.pgm.specs.declared.Cursor.{Cursor}
 use Rattle.pgm.specs.declared.Fault.the-variants.{Letters, GapOrNumber}
 use Rattle.pgm.specs.declared.Step.{Step}
 use Rattle.pgm.specs.declared.Step.the-variants.{Number, Gap, Faulty}
 use Rattle.pgm.specs.declared.Header.{Header}
+use Rattle.pgm.specs.declared.Header.the-variants.{Sound}
+use Rattle.pgm.proofs.Places.{cursor-drop}
 use Rattle.pgm.proofs.Step.{the-type}
-use Rattle.pgm.proofs.Behind.{Behind, Leaves, LeavesBy, farther, dropped, cursor-within, cursor-left}
+use Rattle.pgm.proofs.Behind.{Leaves, LeavesBy, cursor-within, cursor-left, blank-at, gap-at, number-at, opening-at}
 
 -- the tags of the answers that are no gap, and of those that are no number
 abbrev pub NoGap : Step → Type 0
@@ -88,3 +90,67 @@ pub blank-went : (file s : List ℕ) {c : Cursor} {r : Step} → Went file (oneB
     → r ≡ gapStep file (gap s)
 unfolding gap
 blank-went file s w e = e ∙ ap (gapStep file) (sym (ap (λ (x : Rest). andThen x mix) (w .left)))
+
+-- ---- the header from each of its parts on
+
+abbrev pub fromBlank : ℕ → ℕ → ℕ → List ℕ → Parsed
+fromBlank w h g s = onGap (oneBlank s) (sound w h g)
+
+abbrev pub fromGreatest : ℕ → ℕ → List ℕ → Parsed
+fromGreatest w h s = onNumber (number s) (fromBlank w h)
+
+abbrev pub fromGap₃ : ℕ → ℕ → List ℕ → Parsed
+fromGap₃ w h s = onGap (gap s) (fromGreatest w h)
+
+abbrev pub fromHeight : ℕ → List ℕ → Parsed
+fromHeight w s = onNumber (number s) (fromGap₃ w)
+
+abbrev pub fromGap₂ : ℕ → List ℕ → Parsed
+fromGap₂ w s = onGap (gap s) (fromHeight w)
+
+abbrev pub fromWidth : List ℕ → Parsed
+fromWidth s = onNumber (number s) fromGap₂
+
+-- p goes on from the place where a step's answer r leaves the cursor c, or a is the answer where the step stopped
+module _ (file : List ℕ) (i : ℕ) {p : Parsed} {r : Step} where
+  pub opening-on : {c : Cursor} → p ≡ header (drop i file) → r ≡ openingStep file (letters (drop i file)) → r ≡ Gap c
+      → p ≡ fromWidth (drop (c .at) file)
+  unfolding header
+  opening-on e k f = e ∙ opening-went file (letters (drop i file)) fromWidth (opening-at file i) k f
+
+  pub opening-off : {a : Header} → p ≡ header (drop i file) → r ≡ openingStep file (letters (drop i file)) → NoGap r → a ≡ noHeader r
+      → a ≡ headerStep file p
+  unfolding header
+  opening-off e k n f = f ∙ opening-stopped file (letters (drop i file)) fromWidth k n ∙ ap (headerStep file) (sym e)
+
+  module _ (next : List ℕ → Parsed) where
+    pub gap-on : {c : Cursor} → p ≡ onGap (gap (drop i file)) next → r ≡ gapStep file (gap (drop i file)) → r ≡ Gap c
+        → p ≡ next (drop (c .at) file)
+    gap-on e k f = e ∙ rw (gap-went file (gap (drop i file)) (gap-at file i) k f .left)
+
+    pub gap-off : {a : Header} → p ≡ onGap (gap (drop i file)) next → r ≡ gapStep file (gap (drop i file)) → NoGap r → a ≡ noHeader r
+        → a ≡ headerStep file p
+    gap-off e k n f = f ∙ gap-stopped file (gap (drop i file)) next k n ∙ ap (headerStep file) (sym e)
+
+  module _ (next : ℕ → List ℕ → Parsed) where
+    pub number-on : {v : ℕ} {c : Cursor} → p ≡ onNumber (number (drop i file)) next → r ≡ numberStep file (number (drop i file))
+        → r ≡ Number v c
+        → p ≡ next v (drop (c .at) file)
+    number-on e k f = e ∙ rw (number-went file (number (drop i file)) (number-at file i) k f)
+
+    pub number-off : {a : Header} → p ≡ onNumber (number (drop i file)) next → r ≡ numberStep file (number (drop i file)) → NoNumber r
+        → a ≡ noHeader r
+        → a ≡ headerStep file p
+    number-off e k n f = f ∙ number-stopped file (number (drop i file)) next k n ∙ ap (headerStep file) (sym e)
+
+  -- the last blank
+  pub blank-on : (w h g : ℕ) {c : Cursor} → p ≡ fromBlank w h g (drop i file) → r ≡ gapStep file (oneBlank (drop i file)) → r ≡ Gap c
+      → Sound w h g c ≡ headerStep file p
+  blank-on w h g {c} e k f =
+      let m = gap-went file (oneBlank (drop i file)) (blank-at file i) k f in
+      rw (e, m .left) (sym (ap (Sound w h g) (cursor-drop file c (m .within))))
+
+  pub blank-off : (w h g : ℕ) {a : Header} → p ≡ fromBlank w h g (drop i file) → r ≡ gapStep file (oneBlank (drop i file)) → NoGap r
+      → a ≡ noHeader r
+      → a ≡ headerStep file p
+  blank-off w h g e k n f = f ∙ gap-stopped file (oneBlank (drop i file)) (sound w h g) k n ∙ ap (headerStep file) (sym e)

@@ -1,5 +1,5 @@
 -- Sizes within the grid, and room in the output.
-use mathlib.Core.Path.{_≡_, refl}
+use mathlib.Core.Path.{_≡_, refl, sym, _∙_}
 use mathlib.Core.Bool.{Bool, true, false, not, _&&_, and-eq-true-iff}
 use Prim.Native.Nat.{ℕ, _*_, _≤_, _<_}
 use native.Mathlib.Nat.{mul-le-mul, lt-of-le-of-lt}
@@ -32,9 +32,10 @@ refuse-none true ne e = absurd (ne e)
 refuse-none false ne e = (refl, e)
 
 -- then the output holds the bytes that follow the header
-pub room-enough : (w h greatest left room : ℕ) → plateRefusal w h greatest left room ≡ 0 → left ≤ room
+pub room-enough : (w h greatest left room : ℕ) {n : ℕ} → n ≡ plateRefusal w h greatest left room → n ≡ 0 → left ≤ room
 unfolding plateRefusal
-room-enough w h greatest left room e =
+room-enough w h greatest left room is z =
+    let e = sym is ∙ z in
     let e₁ = refuse-none (not (gridFits w h)) (eqb-false 2 0 refl) e .1 in
     let e₂ = refuse-none (not (eqb greatest greatestGrey)) (eqb-false 12 0 refl) e₁ .1 in
     let e₃ = refuse-none (ltb left (w * h)) (eqb-false 14 0 refl) e₂ .1 in

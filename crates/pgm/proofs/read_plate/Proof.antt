@@ -37,7 +37,7 @@ part-copy-over-end c = search needs
 copy-over-requires : tie.Need-copy-over-requires
 copy-over-requires c κs =
     let st = c .before .before .before .before .before .before in
-    let room = room-enough _ _ _ _ _ (sym (c .before .before .before .plate-refusal .ensures) ∙ c .before .before .if1 .left) in
+    let room = room-enough _ _ _ _ _ (c .before .before .before .plate-refusal .ensures) (c .before .before .if1 .left) in
     rw (part (now (st .args .file)) (st .args .at), length-drop (st .args .at) (now (st .args .file))) room
 
 same-length : tie.Need-same-length
