@@ -9,8 +9,10 @@ use lib.Dec.{eqb, leb}
 use lib.ListN.{length, take, drop, getD, length-drop}
 use lib.Seq.{drop-drop}
 use Rattle.meaning.specs.Sets.{pick}
-use Rattle.pgm.specs.Grammar.{Rest, rest, malformed, Found, found, missing, blank, lineEnd, digit, front, decimal, mix, comment, oneBlank, andThen, gap, number, letters}
+use Rattle.pgm.specs.Grammar.{Rest, rest, malformed, Found, found, missing, blank, lineEnd, digit, front, decimal, mix, comment, oneBlank, andThen, gap, number, letters, Parsed, sound, faulty, onRest, onNumber, header}
 use Rattle.pgm.specs.Steps.{cursorAt}
+use Rattle.pgm.specs.declared.Fault.{Fault}
+use Rattle.pgm.specs.declared.Fault.the-variants.{Letters, GapOrNumber}
 use Rattle.pgm.proofs.Skipping.{mix-blank, mix-opens, mix-other, comment-inside, comment-ends}
 
 -- t stands at the end of s, behind `before` bytes
@@ -141,3 +143,31 @@ pub opening-at : (file : List ℕ) (i : ℕ) → Leaves (andThen (letters (drop 
 opening-at file i =
     let l = drop i file in
     leaves-farther (andThen (letters l) gap) (leaves-then (letters l) l gap gap-leaves (letters-leaves l)) (dropped i file)
+
+-- ---- a header: its raster stands at the end of the file
+
+abbrev pub RasterIn : Parsed → List ℕ → Type 0
+RasterIn (sound w h g t) s = Behind t s
+RasterIn (faulty f) s = Unit {0}
+
+raster-farther : (p : Parsed) {t s : List ℕ} → RasterIn p t → Behind t s → RasterIn p s
+raster-farther (sound w h g u) l k = farther l k
+raster-farther (faulty f) l k = tt
+
+on-rest : (f : Fault) (x : Rest) (s : List ℕ) (next : List ℕ → Parsed) → Leaves x s → ((t : List ℕ) → RasterIn (next t) t)
+    → RasterIn (onRest f x next) s
+on-rest f (rest t) s next k n = raster-farther (next t) (n t) k
+on-rest f malformed s next k n = tt
+
+on-number : (x : Found) (s : List ℕ) (next : ℕ → List ℕ → Parsed) → LeavesBy x s → ((v : ℕ) (t : List ℕ) → RasterIn (next v t) t)
+    → RasterIn (onNumber x next) s
+on-number (found v t) s next k n = raster-farther (next v t) (n v t) k
+on-number missing s next k n = tt
+
+pub raster-at : (s : List ℕ) → RasterIn (header s) s
+unfolding header
+raster-at s =
+    on-rest Letters (letters s) s _ (letters-leaves s) λ s₁. on-rest GapOrNumber (gap s₁) s₁ _ (gap-leaves s₁) λ s₂.
+    on-number (number s₂) s₂ _ (number-leaves s₂) λ w s₃. on-rest GapOrNumber (gap s₃) s₃ _ (gap-leaves s₃) λ s₄.
+    on-number (number s₄) s₄ _ (number-leaves s₄) λ h s₅. on-rest GapOrNumber (gap s₅) s₅ _ (gap-leaves s₅) λ s₆.
+    on-number (number s₆) s₆ _ (number-leaves s₆) λ g s₇. on-rest GapOrNumber (oneBlank s₇) s₇ _ (blank-leaves s₇) λ t. all refl

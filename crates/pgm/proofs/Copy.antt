@@ -25,7 +25,7 @@ module _ {bytes before now : List ℕ} {i : ℕ} (k : Copying bytes before i now
     room = k .room;
     within = omega arith;
     long = length-set now i (getD bytes i 0) ∙ k .long;
-    same = rw (k .same, add-one i) (simp zero-add at (paste-suc before 0 bytes i 0 (omega arith) h))
+    same = rw (k .same, add-one i) (simp zero-add at (paste-suc before 0 bytes i 0 (omega arith) h));
   }
 
   pub copying-done : length bytes ≤ i → now ≡ over bytes before

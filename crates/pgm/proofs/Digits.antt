@@ -32,7 +32,7 @@ spelling-first s at end d = record {
   from = omega arith;
   till = omega (arith, d .ends);
   small = let e : at - at ≡ 0 = omega arith in rw e (lit< tt);
-  same = refl
+  same = refl;
 }
 
 module _ {s : List ℕ} {at end i v : ℕ} (d : Digits s at end) (k : Spelling s at end i v) where
@@ -58,7 +58,7 @@ module _ {s : List ℕ} {at end i v : ℕ} (d : Digits s at end) (k : Spelling s
         let e : i + 1 - at ≡ suc (i - at) = omega arith in
         let r = spelling-digit h in
         rw (e, pow-succ') (omega arith);
-    same = rw (add-one i) (sym (ap (decimal v) (slice-cons i end s 0 h (ends digit s at end (d .ends) (d .starts) .within))) ∙ k .same)
+    same = rw (add-one i) (sym (ap (decimal v) (slice-cons i end s 0 h (ends digit s at end (d .ends) (d .starts) .within))) ∙ k .same);
   }
 
   pub spelling-done : end ≤ i → v ≡ decimal 0 (slice at end s)

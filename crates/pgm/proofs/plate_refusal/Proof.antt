@@ -37,28 +37,34 @@ returns-3 c = rw (fits (c .before .before), eq-eqb _ _ (c .before .if2 .left), l
 returns-4 : tie.Need-returns-4
 unfolding plateRefusal
 returns-4 c =
-    rw (fits (c .before .before .before),
-    eq-eqb _ _ (c .before .before .if2 .left),
-    le-ltb _ _ (c .before .if3 .left),
-    lt-ltb _ _ (c .if4 .taken))
+    rw (
+      fits (c .before .before .before),
+      eq-eqb _ _ (c .before .before .if2 .left),
+      le-ltb _ _ (c .before .if3 .left),
+      lt-ltb _ _ (c .if4 .taken),
+    )
 
 returns-5 : tie.Need-returns-5
 unfolding plateRefusal
 returns-5 c =
-    rw (fits (c .before .before .before .before),
-    eq-eqb _ _ (c .before .before .before .if2 .left),
-    le-ltb _ _ (c .before .before .if3 .left),
-    le-ltb _ _ (c .before .if4 .left),
-    lt-ltb _ _ (c .if5 .taken))
+    rw (
+      fits (c .before .before .before .before),
+      eq-eqb _ _ (c .before .before .before .if2 .left),
+      le-ltb _ _ (c .before .before .if3 .left),
+      le-ltb _ _ (c .before .if4 .left),
+      lt-ltb _ _ (c .if5 .taken),
+    )
 
 returns-6 : tie.Need-returns-6
 unfolding plateRefusal
 returns-6 c =
-    rw (fits (c .before .before .before .before),
-    eq-eqb _ _ (c .before .before .before .if2 .left),
-    le-ltb _ _ (c .before .before .if3 .left),
-    le-ltb _ _ (c .before .if4 .left),
-    le-ltb _ _ (c .if5 .left))
+    rw (
+      fits (c .before .before .before .before),
+      eq-eqb _ _ (c .before .before .before .if2 .left),
+      le-ltb _ _ (c .before .before .if3 .left),
+      le-ltb _ _ (c .before .if4 .left),
+      le-ltb _ _ (c .if5 .left),
+    )
 
 pub plate-refusal-spec : {M : Type 1} → statement M
 plate-refusal-spec =

@@ -1,48 +1,49 @@
+-- A plate file: its header is faulty, or the plate behind it is refused or read.
 use borrow.Author.Needs.{needs}
+use denote.Ref.{now}
+use Rattle.pgm.proofs.Reading.{begins, file-refused, file-read}
 use Rattle.pgm.proofs.read_pgm.Statement.{statement}
 use Rattle.pgm.proofs.read_pgm.Tie as tie
-use Rattle.pgm.proofs.read_pgm.Reads as reads
-use Rattle.pgm.proofs.read_pgm.Lts as lts
-use Rattle.pgm.proofs.Cursor.read_header.Reads as read-header-reads
-use Rattle.pgm.proofs.fault_number.Reads as fault-number-reads
-use Rattle.pgm.proofs.read_plate.Reads as read-plate-reads
-use Rattle.pgm.proofs.refuse.Reads as refuse-reads
 
--- src/lib.rt:415:9
 read-header-requires : tie.Need-read-header-requires
-read-header-requires c κs = search needs
+read-header-requires c κs = tt
 
--- src/lib.rt:417:24
 enum-known-header : tie.Need-enum-known-header
 enum-known-header c = search needs
 
--- src/lib.rt:417:41
 fault-number-requires : tie.Need-fault-number-requires
-fault-number-requires c κs = search needs
+fault-number-requires c κs = tt
 
--- src/lib.rt:417:34
 refuse-requires : tie.Need-refuse-requires
-refuse-requires c κs = search needs
+refuse-requires c κs = tt
 
--- src/lib.rt:419:13
 enum-known-header-2 : tie.Need-enum-known-header-2
 enum-known-header-2 c = search needs
 
--- src/lib.rt:423:14
 read-plate-requires : tie.Need-read-plate-requires
-read-plate-requires c κs = ?
+read-plate-requires c κs =
+    let st = c .before .before .before .before .before .before .before in
+    begins (now (st .args .file)) (c .before .before .before .before .read-header .ensures) (c .before .before .header2 .given .1) .within
 
--- src/lib.rt:411:1
 returns : tie.Need-returns
-returns c = ?
+returns c =
+    let st = c .before .before .before .before .before .before .before .before in
+    file-refused (now (st .args .file)) (now (st .args .out)) (c .before .before .before .before .before .read-header .ensures)
+    (c .before .before .before .header .given .1)
+    (c .before .fault-number .ensures)
+    (c .refuse .ensures)
 
--- src/lib.rt:411:1
 same-length : tie.Need-same-length
 same-length c = search needs
 
--- src/lib.rt:411:1
 returns-2 : tie.Need-returns-2
-returns-2 c = ?
+returns-2 c =
+    let st = c .before .before .before .before .before .before .before .before .before .before in
+    let s = now (st .args .file) in
+    file-read s (now (st .args .out))
+    (begins s (c .before .before .before .before .before .before .before .read-header .ensures)
+    (c .before .before .before .before .before .header2 .given .1))
+    (c .before .before .read-plate .ensures)
 
 pub read-pgm-spec : {M : Type 1} → statement M
 read-pgm-spec =

@@ -28,9 +28,11 @@ cast-v c = omega (arith, spelling-digit (c .before .before .before .pre) (c .bef
 
 add-v : tie.Need-add-v Inv-loop μ-loop
 add-v c =
-    omega (arith,
-    spelling-digit (c .before .before .before .pre) (c .before .before .loop .inv) (c .before .loop-test .taken),
-    spelling-small (c .before .before .before .pre) (c .before .before .loop .inv) (c .before .loop-test .taken))
+    omega (
+      arith,
+      spelling-digit (c .before .before .before .pre) (c .before .before .loop .inv) (c .before .loop-test .taken),
+      spelling-small (c .before .before .before .pre) (c .before .before .loop .inv) (c .before .loop-test .taken),
+    )
 
 add-i : tie.Need-add-i Inv-loop μ-loop
 add-i c = omega arith

@@ -8,8 +8,20 @@ use lib.ListN.{drop}
 use Rattle.pgm.specs.Grammar.{Parsed, header}
 use Rattle.pgm.specs.declared.Cursor.{Cursor}
 use Rattle.pgm.proofs.Parsing.{
-  fromWidth, fromGap₂, fromHeight, fromGap₃, fromGreatest, fromBlank,
-  opening-on, opening-off, gap-on, gap-off, number-on, number-off, blank-on, blank-off,
+  fromWidth,
+  fromGap₂,
+  fromHeight,
+  fromGap₃,
+  fromGreatest,
+  fromBlank,
+  opening-on,
+  opening-off,
+  gap-on,
+  gap-off,
+  number-on,
+  number-off,
+  blank-on,
+  blank-off,
 }
 use Rattle.pgm.proofs.Cursor.read_header.Statement.{statement}
 use Rattle.pgm.proofs.Cursor.read_header.Tie as tie
