@@ -7,3 +7,4 @@ pub mod Copy
 pub mod Behind
 pub mod Parsing
 pub mod Reading
+pub mod Examples

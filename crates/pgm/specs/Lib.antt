@@ -3,3 +3,5 @@
 pub mod Grammar
 pub mod Steps
 pub mod File
+pub mod Text
+pub mod Examples
