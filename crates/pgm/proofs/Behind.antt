@@ -4,9 +4,9 @@ use mathlib.Core.Bool.{Bool, true, false, _&&_}
 use mathlib.Core.List.{List, [], _∷_}
 use Prim.Native.Nat.{ℕ, zero, suc, _+_, _-_, _≤_}
 use native.Mathlib.Omega.{arith}
-use borrow.Author.Tests.{eqb-true, eqb-false, not-true, not-false}
+use borrow.Author.Tests.{eqb-true, eqb-false}
 use lib.Dec.{eqb, leb}
-use lib.ListN.{length, take, drop, getD, length-drop}
+use lib.ListN.{length, take, drop, length-drop}
 use lib.Seq.{drop-drop}
 use Rattle.meaning.specs.Sets.{pick}
 use Rattle.pgm.specs.Grammar.{Rest, rest, malformed, Found, found, missing, blank, lineEnd, digit, front, decimal, mix, comment, oneBlank, andThen, gap, number, letters, Parsed, sound, faulty, onRest, onNumber, header}

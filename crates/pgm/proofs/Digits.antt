@@ -1,7 +1,7 @@
 -- The number that one to five digits spell, and the loop that works it out.
 use mathlib.Core.Path.{_≡_, refl, sym, ap, _∙_}
-use mathlib.Core.Bool.{Bool, true, false, and-eq-true-iff}
-use mathlib.Core.List.{List, [], _∷_}
+use mathlib.Core.Bool.{true, and-eq-true-iff}
+use mathlib.Core.List.{List}
 use Prim.Native.Nat.{ℕ, suc, _+_, _-_, _*_, _^_, _≤_, _<_}
 use native.Mathlib.Nat.{pow-succ', pow-le-pow-right}
 use native.Mathlib.Numerals.{add-one}
@@ -10,11 +10,11 @@ use borrow.Author.Tests.{leb-true, le-leb, lt-leb}
 use lib.Dec.{leb, lit<}
 use lib.ListN.{length, take, drop, getD}
 use lib.Seq.{slice, slice-cons, slice-empty, drop-drop, drop-at, take-add, length-take-le}
-use Rattle.pgm.specs.Grammar.{digit, front, decimal, Found, found, missing, number}
+use Rattle.pgm.specs.Grammar.{digit, front, decimal, found, missing, number}
 use Rattle.pgm.specs.Steps.{Digits, numberStep}
 use Rattle.pgm.specs.declared.Step.the-variants.{Number}
 use Rattle.pgm.proofs.Places.{cursor-drop}
-use Rattle.pgm.proofs.Front.{Ends, ends, passes, front-end}
+use Rattle.pgm.proofs.Front.{ends, passes, front-end}
 
 pub digit-range : (b : ℕ) → digit b ≡ true → (48 ≤ b) × (b ≤ 57)
 unfolding digit

@@ -7,12 +7,12 @@ use native.Mathlib.Omega.{arith}
 use types.Run.{OneOf}
 use denote.Enum.Declared.{tagOf}
 use lib.ListN.{length, drop}
-use Rattle.pgm.specs.Grammar.{Rest, rest, malformed, Found, found, missing, Parsed, sound, faulty, mix, gap, oneBlank, andThen, number, letters, onRest, onGap, onNumber, header}
+use Rattle.pgm.specs.Grammar.{Rest, rest, malformed, Found, found, missing, Parsed, sound, mix, gap, oneBlank, andThen, number, letters, onRest, onGap, onNumber, header}
 use Rattle.pgm.specs.Steps.{cursorAt, gapStep, numberStep, openingStep, noHeader, headerStep}
 use Rattle.pgm.specs.declared.Cursor.{Cursor}
-use Rattle.pgm.specs.declared.Fault.the-variants.{Letters, GapOrNumber}
+use Rattle.pgm.specs.declared.Fault.the-variants.{Letters}
 use Rattle.pgm.specs.declared.Step.{Step}
-use Rattle.pgm.specs.declared.Step.the-variants.{Number, Gap, Faulty}
+use Rattle.pgm.specs.declared.Step.the-variants.{Number, Gap}
 use Rattle.pgm.specs.declared.Header.{Header}
 use Rattle.pgm.specs.declared.Header.the-variants.{Sound}
 use Rattle.pgm.proofs.Places.{cursor-drop}

@@ -8,11 +8,10 @@ use native.Mathlib.Omega.{arith}
 use borrow.Author.Tests.{eq-eqb, ne-eqb}
 use lib.ListN.{length, drop, getD, length-drop, drop-of-length-le}
 use lib.Seq.{drop-cons}
-use Rattle.pgm.specs.Grammar.{Rest, rest, malformed, blank, mix, oneBlank, letters}
-use Rattle.pgm.specs.Steps.{Skipped, Within, leftBy, cursorAt, gapStep}
+use Rattle.pgm.specs.Grammar.{rest, malformed, blank, mix, oneBlank, letters}
+use Rattle.pgm.specs.Steps.{Skipped, cursorAt, gapStep}
 use Rattle.pgm.specs.declared.Cursor.{Cursor}
 use Rattle.pgm.specs.declared.Fault.the-variants.{GapOrNumber}
-use Rattle.pgm.specs.declared.Step.{Step}
 use Rattle.pgm.specs.declared.Step.the-variants.{Gap, Faulty}
 use Rattle.pgm.specs.declared.Skip.{Skip}
 use Rattle.pgm.specs.declared.Skip.the-variants.{Past, Paused, Unended}

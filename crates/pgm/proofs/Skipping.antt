@@ -1,18 +1,18 @@
 -- What skipping blanks and comments leaves, place by place.
-use mathlib.Core.Path.{_≡_, refl, sym, ap, _∙_}
-use mathlib.Core.Bool.{Bool, true, false, not}
-use mathlib.Core.List.{List, [], _∷_}
-use Prim.Native.Nat.{ℕ, suc, _+_, _-_, _≤_, _<_}
+use mathlib.Core.Path.{_≡_, sym, _∙_}
+use mathlib.Core.Bool.{true, false}
+use mathlib.Core.List.{List, _∷_}
+use Prim.Native.Nat.{ℕ, _+_, _-_, _≤_, _<_}
 use native.Mathlib.Numerals.{add-one}
 use native.Mathlib.Omega.{arith}
 use borrow.Author.Tests.{ne-eqb, not-true, not-false}
-use lib.ListN.{length, drop, getD, drop-of-length-le, length-drop}
+use lib.ListN.{length, drop, getD, drop-of-length-le}
 use lib.Seq.{drop-cons}
-use Rattle.pgm.specs.Grammar.{Rest, rest, malformed, blank, lineEnd, inComment, mix, comment, front}
-use Rattle.pgm.specs.Steps.{Skipped, Within, leftBy}
+use Rattle.pgm.specs.Grammar.{rest, blank, lineEnd, inComment, mix, comment, front}
+use Rattle.pgm.specs.Steps.{Skipped, Within}
 use Rattle.pgm.specs.declared.Skip.{Skip}
 use Rattle.pgm.specs.declared.Skip.the-variants.{Past, Paused, Unended}
-use Rattle.pgm.proofs.Front.{Ends, ends, past}
+use Rattle.pgm.proofs.Front.{ends, past}
 
 -- ---- the grammar at one byte
 

@@ -1,5 +1,5 @@
 // Reads a plate file, the binary form of Netpbm's PGM: 01's "Plate file". specs/Grammar.antt has the grammar of a header on lists of
-// bytes, specs/Steps.antt what a header step answers by it, and specs/Plate.antt what reading a file answers.
+// bytes, specs/Steps.antt what a header step answers by it, specs/File.antt what reading a file answers, and specs/Examples.antt examples.
 ghost use mathlib.Core.Path.{_≡_};
 ghost use mathlib.Core.Bool.{_&&_};
 ghost use Prim.Native.Nat.{_+_, _≤_};
@@ -12,7 +12,7 @@ ghost use Rattle.pgm.specs.Grammar.{blank, lineEnd, inComment, digit, fr
 ghost use Rattle.pgm.specs.Steps.{Skipped, Digits, gapStep, numberStep, openingStep, noHeader, headerStep};
 ghost use Rattle.pgm.specs.File.{faultNumber, plateRefusal, refused, ReadPlate, readPgm, rasterOf};
 
-// How many comments are skipped before the two functions that call each other hand the cursor back: the depth of their calls.
+// How many comments `skip_blanks` and `skip_comment` skip before they hand the cursor back. It bounds the depth of their calls.
 const TURNS: usize = 1000;
 
 // A place of a file: the number of a byte, counted from 0.
@@ -188,7 +188,7 @@ impl Cursor {
         Cursor { at: at + 1 }.skip_blanks(file, turns)
     }
 
-    // Any mix of blanks and comments. The calls of `skip_blanks` are at most TURNS comments deep each, so the stack holds for any file.
+    // Any mix of blanks and comments, however long.
     fn mix(self, file: &[u8]) -> Step
         requires { ⌜ self .at ≤ length (now file) ⌝ }
         ensures { λ r. ⌜ r ≡ gapStep (now (file .entry)) (mix (drop (self .at) (now (file .entry)))) ⌝ }

@@ -1,6 +1,5 @@
 -- The loop that copies: what is copied so far is pasted over the output.
-use mathlib.Core.Path.{_≡_, refl, sym, ap, _∙_}
-use Prim.Native.Nat.{_-_, _≤_}
+use Prim.Native.Nat.{_-_}
 use native.Mathlib.Omega.{arith}
 use lib.ListN.{length}
 use Rattle.pgm.proofs.Copy.{Copying, copying-first, copying-more, copying-done}

@@ -1,5 +1,4 @@
 -- A byte is a blank.
-use mathlib.Core.Path.{sym}
 use borrow.Author.Tests.{eq-eqb, ne-eqb}
 use Rattle.pgm.specs.Grammar.{blank, lineEnd}
 use Rattle.pgm.proofs.is_blank.Statement.{statement}

@@ -1,10 +1,7 @@
 -- A plate behind a sound header.
-use mathlib.Core.Path.{_≡_, sym, ap, _∙_}
-use native.Mathlib.Omega.{arith}
 use borrow.Author.Needs.{needs}
 use denote.Ref.{now}
-use lib.ListN.{length, drop, length-drop}
-use Rattle.meaning.specs.Answers.{over}
+use lib.ListN.{length-drop}
 use Rattle.pgm.proofs.Sizes.{room-enough}
 use Rattle.pgm.proofs.Reading.{plate-refused, plate-read, part}
 use Rattle.pgm.proofs.read_plate.Statement.{statement}
