@@ -11,7 +11,7 @@ use lib.Seq.{take-all}
 use Rattle.meaning.specs.Answers.{over, outAfter}
 use Rattle.pgm.specs.Grammar.{Parsed, sound, faulty, header}
 use Rattle.pgm.specs.Steps.{cursorAt, headerStep}
-use Rattle.pgm.specs.File.{faultNumber, plateRefusal, refused, answered, ReadPlate, readPgm, rasterOf}
+use Rattle.pgm.specs.File.{faultNumber, rasterRefusal, refused, answered, ReadPlate, readPgm, rasterOf}
 use Rattle.pgm.specs.declared.Cursor.{Cursor}
 use Rattle.pgm.specs.declared.Fault.{Fault}
 use Rattle.pgm.specs.declared.Fault.the-variants.{Letters, GapOrNumber}
@@ -21,8 +21,8 @@ use Rattle.pgm.proofs.Behind.{RasterIn, raster-at, cursor-within, curso
 use Rattle.pgm.specs.declared.PgmRead.{PgmRead}
 
 module _ (w h greatest : ℕ) (raster out : List ℕ) (left : ℕ) {n : ℕ} (long : length raster ≡ left)
-    (is : n ≡ plateRefusal w h greatest left (length out)) where
-  number : n ≡ plateRefusal w h greatest (length raster) (length out)
+    (is : n ≡ rasterRefusal w h greatest left (length out)) where
+  number : n ≡ rasterRefusal w h greatest (length raster) (length out)
   number = is ∙ rw long
 
   pub plate-refused : {r : PgmRead} → (n ≡ 0 → ⊥) → r ≡ refused n → ReadPlate w h greatest raster out r out
@@ -88,5 +88,5 @@ pub file-read : (file out : List ℕ) {w h g : ℕ} {c : Cursor} {r : PgmRead} {
 unfolding readPgm rasterOf
 file-read file out {w} {h} {g} {c} b k = (
   k .answer ∙ rw (b .parsed),
-  k .output ∙ rw (b .parsed, refusal-is (plateRefusal w h g (length (drop (c .at) file)) (length out)) w h),
+  k .output ∙ rw (b .parsed, refusal-is (rasterRefusal w h g (length (drop (c .at) file)) (length out)) w h),
 )

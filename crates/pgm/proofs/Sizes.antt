@@ -8,7 +8,7 @@ use borrow.Author.Tests.{leb-true, ltb-false, eqb-false}
 use lib.Dec.{leb, ltb, eqb, lit<}
 use Rattle.meaning.specs.Plate.{gridFits, maxSide, maxPixels, greatestGrey}
 use Rattle.meaning.specs.Answers.{refuse}
-use Rattle.pgm.specs.File.{plateRefusal}
+use Rattle.pgm.specs.File.{rasterRefusal}
 
 pub side-most : (n : ℕ) → (leb 1 n && leb n maxSide) ≡ true → n ≤ maxSide
 side-most n e = leb-true n maxSide (and-eq-true-iff (leb 1 n) (leb n maxSide) .0 e .1)
@@ -32,8 +32,8 @@ refuse-none true ne e = absurd (ne e)
 refuse-none false ne e = (refl, e)
 
 -- then the output holds the bytes that follow the header
-pub room-enough : (w h greatest left room : ℕ) {n : ℕ} → n ≡ plateRefusal w h greatest left room → n ≡ 0 → left ≤ room
-unfolding plateRefusal
+pub room-enough : (w h greatest left room : ℕ) {n : ℕ} → n ≡ rasterRefusal w h greatest left room → n ≡ 0 → left ≤ room
+unfolding rasterRefusal
 room-enough w h greatest left room is z =
     let e = sym is ∙ z in
     let e₁ = refuse-none (not (gridFits w h)) (eqb-false 2 0 refl) e .1 in

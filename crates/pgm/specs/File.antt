@@ -20,9 +20,9 @@ faultNumber GapOrNumber = 11
 
 -- behind a sound header: 2 sizes beyond the grid; 12 the third number is not 255; 14 raster short; 15 bytes left over; 5 output shorter
 -- than the pixels. `left` is how many bytes follow the header, `room` the output's length
-unfoldable pub plateRefusal : ℕ → ℕ → ℕ → ℕ → ℕ → ℕ
+unfoldable pub rasterRefusal : ℕ → ℕ → ℕ → ℕ → ℕ → ℕ
 unfolding gridFits
-plateRefusal w h greatest left room =
+rasterRefusal w h greatest left room =
     refuse (not (gridFits w h)) 2 (refuse (not (eqb greatest greatestGrey)) 12
     (refuse (ltb left (w * h)) 14 (refuse (ltb (w * h) left) 15 (outRefusal (w * h) room 0))))
 
@@ -36,16 +36,16 @@ answered n w h = pick (eqb n 0) (record { refusal = 0; width = w; height = h }) 
 
 -- a plate is read behind a sound header: the answer r, and the output afterwards
 pub record ReadPlate (w h greatest : ℕ) (raster out : List ℕ) (r : PgmRead) (after : List ℕ) : Type 0 where
-  pub answer : r ≡ answered (plateRefusal w h greatest (length raster) (length out)) w h
-  pub output : after ≡ outAfter (plateRefusal w h greatest (length raster) (length out)) raster out
+  pub answer : r ≡ answered (rasterRefusal w h greatest (length raster) (length out)) w h
+  pub output : after ≡ outAfter (rasterRefusal w h greatest (length raster) (length out)) raster out
 
 abbrev pub answerOf : Parsed → ℕ → PgmRead
-answerOf (sound w h greatest raster) room = answered (plateRefusal w h greatest (length raster) room) w h
+answerOf (sound w h greatest raster) room = answered (rasterRefusal w h greatest (length raster) room) w h
 answerOf (faulty f) room = refused (faultNumber f)
 
 -- what reading the file answers, with an output of length `room`
 unfoldable pub readPgm : List ℕ → ℕ → PgmRead
-unfolding header plateRefusal
+unfolding header rasterRefusal
 readPgm file room = answerOf (header file) room
 
 abbrev pub rasterBehind : Parsed → List ℕ

@@ -10,7 +10,7 @@ ghost use Rattle.meaning.specs.Plate.{gridFits, maxSide};
 ghost use Rattle.meaning.specs.Answers.{over, outAfter};
 ghost use Rattle.pgm.specs.Grammar.{blank, lineEnd, inComment, digit, front, decimal, mix, comment, gap, oneBlank, number, letters, header};
 ghost use Rattle.pgm.specs.Steps.{Skipped, Digits, gapStep, numberStep, openingStep, noHeader, headerStep};
-ghost use Rattle.pgm.specs.File.{faultNumber, plateRefusal, refused, ReadPlate, readPgm, rasterOf};
+ghost use Rattle.pgm.specs.File.{faultNumber, rasterRefusal, refused, ReadPlate, readPgm, rasterOf};
 
 // How many comments `skip_blanks` and `skip_comment` skip before they hand the cursor back. It bounds the depth of their calls.
 const TURNS: usize = 1000;
@@ -329,8 +329,8 @@ fn grid_fits(width: u32, height: u32) -> bool
 }
 
 // The refusal behind a sound header, which `left` bytes follow, where the output's length is `room`.
-fn plate_refusal(width: u32, height: u32, greatest: u32, left: usize, room: usize) -> u32
-    ensures { λ r. ⌜ r ≡ plateRefusal width height greatest left room ⌝ }
+fn raster_refusal(width: u32, height: u32, greatest: u32, left: usize, room: usize) -> u32
+    ensures { λ r. ⌜ r ≡ rasterRefusal width height greatest left room ⌝ }
 {
     if !grid_fits(width, height) {
         return 2;
@@ -395,7 +395,7 @@ fn read_plate(
     requires { ⌜ at ≤ length (now file) ⌝ }
     ensures { λ r. ⌜ ReadPlate width height greatest (drop at (now (file .entry))) (now (out .entry)) r (now (out .exit)) ⌝ }
 {
-    let refusal = plate_refusal(width, height, greatest, file.len() - at, out.len());
+    let refusal = raster_refusal(width, height, greatest, file.len() - at, out.len());
     if refusal != 0 {
         return refuse(refusal);
     }

@@ -7,11 +7,11 @@ use Rattle.pgm.proofs.Reading.{plate-refused, plate-read, part}
 use Rattle.pgm.proofs.read_plate.Statement.{statement}
 use Rattle.pgm.proofs.read_plate.Tie as tie
 
-sub-plate-refusal : tie.Need-sub-plate-refusal
-sub-plate-refusal c = search needs
+sub-raster-refusal : tie.Need-sub-raster-refusal
+sub-raster-refusal c = search needs
 
-plate-refusal-requires : tie.Need-plate-refusal-requires
-plate-refusal-requires c κs = search needs
+raster-refusal-requires : tie.Need-raster-refusal-requires
+raster-refusal-requires c κs = search needs
 
 refuse-requires : tie.Need-refuse-requires
 refuse-requires c κs = search needs
@@ -19,7 +19,7 @@ refuse-requires c κs = search needs
 returns : tie.Need-returns
 returns c =
     let st = c .before .before .before .before .before in
-    plate-refused _ _ _ _ _ _ (length-drop (st .args .at) (now (st .args .file))) (c .before .before .plate-refusal .ensures) (c .before .if1 .taken)
+    plate-refused _ _ _ _ _ _ (length-drop (st .args .at) (now (st .args .file))) (c .before .before .raster-refusal .ensures) (c .before .if1 .taken)
     (c .refuse .ensures)
 
 sub-copy-over : tie.Need-sub-copy-over
@@ -34,7 +34,7 @@ part-copy-over-end c = search needs
 copy-over-requires : tie.Need-copy-over-requires
 copy-over-requires c κs =
     let st = c .before .before .before .before .before .before in
-    let room = room-enough _ _ _ _ _ (c .before .before .before .plate-refusal .ensures) (c .before .before .if1 .left) in
+    let room = room-enough _ _ _ _ _ (c .before .before .before .raster-refusal .ensures) (c .before .before .if1 .left) in
     rw (part (now (st .args .file)) (st .args .at), length-drop (st .args .at) (now (st .args .file))) room
 
 same-length : tie.Need-same-length
@@ -44,7 +44,7 @@ returns-2 : tie.Need-returns-2
 returns-2 c =
     let st = c .before .before .before .before .before .before .before .before .before in
     let s = now (st .args .file) in
-    plate-read _ _ _ _ _ _ (length-drop (st .args .at) s) (c .before .before .before .before .before .before .plate-refusal .ensures)
+    plate-read _ _ _ _ _ _ (length-drop (st .args .at) s) (c .before .before .before .before .before .before .raster-refusal .ensures)
     (c .before .before .before .before .before .if1 .left)
     (rw (part s (st .args .at)) at (c .before .before .copy-over .ensures))
 
@@ -52,8 +52,8 @@ pub read-plate-spec : {M : Type 1} → statement M
 read-plate-spec =
     tie.close
     (tie.spec
-    sub-plate-refusal
-    plate-refusal-requires
+    sub-raster-refusal
+    raster-refusal-requires
     refuse-requires
     returns
     sub-copy-over
