@@ -7,3 +7,4 @@ pub mod Nodes
 pub mod Rises
 pub mod Losses
 pub mod Children
+pub mod Cuts
