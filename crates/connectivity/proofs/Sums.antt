@@ -4,6 +4,7 @@ use mathlib.Core.Logic.{inl, inr}
 use mathlib.Core.Bool.{Bool, true, false, _&&_, _||_}
 use Prim.Native.Nat.{ℕ, zero, suc, _+_, _*_, _≤_, _<_}
 use native.Mathlib.Nat.{zero-mul, suc-mul, add-mul, add-zero, add-suc}
+use native.Mathlib.Decide.{decLe}
 use native.Mathlib.Omega.{arith}
 use lib.Dec.{T, eqb, eqb→eq}
 use Rattle.meaning.specs.Sets.{area, bit, pick, sum}
@@ -120,4 +121,13 @@ pub area-pos : (n : ℕ) (s : ℕ → Bool) (q : ℕ) → q < n → T (s q) → 
 area-pos n s q l t = elim (area-grows n (λ (q : ℕ). false) s (λ q l t. absurd t)) [
   | inl h ↦ omega arith
   | inr w ↦ absurd (w q l t)
+]
+
+-- a sum that is not 0 has a term that is not 0
+pub sum-pos : (n : ℕ) (g : ℕ → ℕ) → 1 ≤ sum n g → (q : ℕ) × (q < n) × (1 ≤ g q)
+unfolding sum
+sum-pos zero g h = absurd (omega arith)
+sum-pos (suc n) g h = elim (decLe 1 (g n)) [
+  | yes a ↦ (n, omega arith, a)
+  | no a ↦ let r = sum-pos n g (omega arith) in (r .0, omega arith, r .2)
 ]

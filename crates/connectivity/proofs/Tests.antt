@@ -71,6 +71,10 @@ pub bit-no : (b : Bool) → (T b → ⊥) → bit b ≡ 0
 bit-no true f = absurd (f tt)
 bit-no false f = refl
 
+pub bit-true : (b : Bool) → 1 ≤ bit b → T b
+bit-true true h = tt
+bit-true false h = absurd (omega arith)
+
 pub bit-and-true : (b : Bool) → bit (b && true) ≡ bit b
 bit-and-true true = refl
 bit-and-true false = refl

@@ -7,6 +7,7 @@ use lib.ListN.{length}
 use Rattle.meaning.specs.Sets.{bit, some, table, has}
 use Rattle.meaning.specs.Component.{component}
 use Rattle.meaning.specs.Plate.{touch, grey}
+use Rattle.meaning.specs.Opening.{attribute}
 
 -- the pixels of p's grey
 abbrev pub alike : (ℕ → ℕ) → ℕ → ℕ → Bool
@@ -37,3 +38,8 @@ maximum n near g p =
 unfoldable pub marks : ℕ → ℕ → List ℕ → List ℕ
 unfolding maximum table touch
 marks k w f = table (length f) (λ (p : ℕ). bit (maximum (length f) (touch k w) (grey f) p))
+
+-- every regional maximum of a plate has at least the limit's pixels
+abbrev pub LargeMaxima : ℕ → ℕ → ℕ → List ℕ → Type 0
+LargeMaxima k w limit g =
+    (p : ℕ) → p < length g → Maximum (length g) (touch k w) (grey g) p → limit ≤ attribute (length g) (has (flatZone (length g) (touch k w) (grey g) p))

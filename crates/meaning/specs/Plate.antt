@@ -53,6 +53,10 @@ pub record Plate (k w h : ℕ) (f : List ℕ) : Type 0 where
   pub long : length f ≡ w * h
   pub greys : (p : ℕ) → p < length f → grey f p ≤ greatestGrey
 
--- one plate is nowhere lighter than another: no pixel has a greater grey in it
+-- one plate of n pixels is nowhere lighter than another: no pixel has a greater grey in it
 abbrev pub Below : ℕ → (ℕ → ℕ) → (ℕ → ℕ) → Type 0
 Below n f g = (q : ℕ) → q < n → f q ≤ g q
+
+-- the same of lists of greys of one length
+abbrev pub NowhereLighter : List ℕ → List ℕ → Type 0
+NowhereLighter g f = (length g ≡ length f) × Below (length f) (grey g) (grey f)

@@ -1,6 +1,6 @@
 -- Laws of regional maxima: those of an opening qualify, and the opening of f is the lightest plate that is nowhere lighter than f and whose regional
 -- maxima all qualify; the test `maximum`.
-use mathlib.Core.Path.{_≡_}
+use mathlib.Core.Path.{_≡_, sym, _∙_}
 use mathlib.Core.Logic.{inl, inr}
 use mathlib.Core.Bool.{Bool, not, _&&_}
 use mathlib.Core.List.{List}
@@ -121,6 +121,21 @@ module _ {n : ℕ} {near : ℕ → ℕ → Bool} {keep : (ℕ → Bool) → Bool
       → ((h : ℕ → ℕ) → Below n h f → MaximaKept n near keep h → Below n h g) → (p : ℕ) → p < n → g p ≡ openedAt n near keep f p
   opened-unique f g a b c p l =
       le-antisymm (opened-lightest f g a b p l) (c (openedAt n near keep f) (λ q i. opened-below grid crit f q) (maxima-kept f) p l)
+
+-- ---- only the greys of the grid's pixels count
+
+zone-cong : {n : ℕ} (near : ℕ → ℕ → Bool) (g g′ : ℕ → ℕ) → ((q : ℕ) → q < n → g q ≡ g′ q) → (p : ℕ) → p < n
+    → Within n (has (flatZone n near g p)) (has (flatZone n near g′ p))
+zone-cong near g g′ e p l q lq t =
+    joined-zone g′ p q (joined-mono (alike g′ p) (λ r i u. alike-eq g′ p r (sym (e r i) ∙ eqb→eq (g r) (g p) u ∙ e p l)) (zone-joined g p q lq t))
+
+pub maxima-cong : {n : ℕ} (near : ℕ → ℕ → Bool) {keep : (ℕ → Bool) → Bool} → Criterion n keep → (g g′ : ℕ → ℕ) → ((q : ℕ) → q < n → g q ≡ g′ q)
+    → MaximaKept n near keep g → MaximaKept n near keep g′
+maxima-cong {n} near crit g g′ e kept p l m =
+    crit .increasing (has (flatZone n near g p)) (has (flatZone n near g′ p)) (zone-cong near g g′ e p l)
+    (kept p l (λ q r lq lr z u out.
+    let dark : g′ r < g′ p = m q r lq lr (zone-cong near g g′ e p l q lq z) u (λ t. out (zone-cong near g′ g (λ a b. sym (e a b)) p l r lr t)) in
+    omega (arith, e r lr, e p l)))
 
 -- ---- a test that computes
 

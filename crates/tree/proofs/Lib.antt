@@ -8,3 +8,5 @@ pub mod Rises
 pub mod Losses
 pub mod Children
 pub mod Cuts
+pub mod Leaves
+pub mod NodeSets

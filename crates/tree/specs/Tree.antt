@@ -49,3 +49,8 @@ pub record Nodes (n : ℕ) (near : ℕ → ℕ → Bool) (f : ℕ → ℕ) (xs :
 unfoldable pub live : (n : ℕ) (near : ℕ → ℕ → Bool) (f : ℕ → ℕ) (xs : List ℕ) → ((ℕ → Bool) → Bool) → ℕ → ℕ → Bool
 unfolding holds
 live n near f xs keep p j = let k = keep (holds n near f xs j) in holds n near f xs j p && k
+
+-- j is reached from i by going from node to parent
+pub data Ancestor (up : ℕ → ℕ) : ℕ → ℕ → Type 0 where
+  self : {i : ℕ} → Ancestor up i i
+  above : {i j : ℕ} → 0 < i → Ancestor up (up i) j → Ancestor up i j

@@ -1,0 +1,3 @@
+-- The theorems about plates.
+pub mod Plates
+pub mod Theorems

@@ -1,0 +1,184 @@
+-- From lists of greys to the theory: a plate is a grid, its anchors number its nodes, and its opening, cut and size list at a pixel or an area.
+use mathlib.Core.Path.{_≡_, refl, sym, ap, _∙_}
+use mathlib.Core.Bool.{Bool, true, _&&_}
+use mathlib.Core.List.{List, [], _∷_, map}
+use Prim.Native.Nat.{ℕ, zero, suc, _+_, _-_, _*_, _≤_, _<_}
+use native.Mathlib.Nat.{mul-comm, mul-le-mul-right, le-antisymm, not-suc-le-zero, le-of-suc-le-suc}
+use native.Mathlib.Omega.{arith}
+use lib.Dec.{T, leb, leb→le, le→leb}
+use lib.ListN.{length, getD, length-map}
+use lib.Seq.{ext-getD}
+use Rattle.meaning.specs.Cut.{cut, cutAt, darkest, total}
+use Rattle.meaning.specs.Nodes.{nodesOf}
+use Rattle.meaning.specs.Opening.{Criterion, atLeast, attribute, closed, opened, openedAt}
+use Rattle.meaning.specs.Paths.{Grid}
+use Rattle.meaning.specs.Plate.{Plate, greatestGrey, grey, gridFits, maxPixels, maxSide, negative, touch}
+use Rattle.meaning.specs.Sets.{elem, lowest, nth, place, sum, table}
+use Rattle.connectivity.specs.Members.{Lowest}
+use Rattle.connectivity.proofs.Lists.{elem-nth, getD-table, length-table, place-is}
+use Rattle.connectivity.proofs.Sets.{lowest-is}
+use Rattle.connectivity.proofs.Sums.{sum-cong}
+use Rattle.connectivity.proofs.Tests.{tests}
+use Rattle.connectivity.proofs.Touch.{list-grid}
+use Rattle.opening.proofs.Area.{area-attribute}
+use Rattle.opening.proofs.Attribute.{attribute-criterion}
+use Rattle.opening.proofs.Opening.{opened-below}
+use Rattle.tree.specs.Tree.{Nodes}
+use Rattle.tree.proofs.Losses.{cut-opened}
+use Rattle.tree.proofs.Nodes.{anchors-nodes, nth-inside, root-level, some-node}
+use Rattle.theorems.specs.Sizes.{Sizes}
+
+-- a test that is `true` passes
+pub passes : {b : Bool} → b ≡ true → T b
+passes e = rw e tt
+
+pub sizes-fit : (w h : ℕ) → T (gridFits w h) → Sizes w h
+unfolding gridFits
+sizes-fit w h t =
+    let a : T (leb 1 w) = search tests in
+    let b : T (leb w maxSide) = search tests in
+    let c : T (leb 1 h) = search tests in
+    let d : T (leb h maxSide) = search tests in
+    let e : T (leb (w * h) maxPixels) = search tests in
+    record { width = leb→le 1 w a; wide = leb→le w maxSide b; height = leb→le 1 h c; high = leb→le h maxSide d; pixels = leb→le (w * h) maxPixels e }
+
+-- ---- lists as functions
+
+pub grey-table : (n : ℕ) (g : ℕ → ℕ) (p : ℕ) → p < n → grey (table n g) p ≡ g p
+grey-table n g p l = getD-table n g p 0 l
+
+-- a list is the table of its greys
+pub table-grey : (f : List ℕ) → table (length f) (grey f) ≡ f
+table-grey f =
+    ext-getD 0 (table (length f) (grey f)) f (length-table (length f) (grey f))
+    (λ i l. getD-table (length f) (grey f) i 0 (rw (length-table (length f) (grey f)) at l))
+
+-- functions that agree below n have one table
+pub table-same : (n : ℕ) (g g′ : ℕ → ℕ) → ((p : ℕ) → p < n → g p ≡ g′ p) → table n g ≡ table n g′
+table-same n g g′ e =
+    ext-getD 0 (table n g) (table n g′) (length-table n g ∙ sym (length-table n g′))
+    (λ i l.
+    let b : i < n = rw (length-table n g) at l in
+    getD-table n g i 0 b ∙ e i b ∙ sym (getD-table n g′ i 0 b))
+
+pub grey-map : (g : ℕ → ℕ) (f : List ℕ) (p : ℕ) → p < length f → grey (map g f) p ≡ g (grey f p)
+grey-map g [] p l = absurd (not-suc-le-zero l)
+grey-map g (x ∷ f) zero l = refl
+grey-map g (x ∷ f) (suc p) l = grey-map g f p (le-of-suc-le-suc l)
+
+-- ---- a plate
+
+module _ {k w h : ℕ} {f : List ℕ} (plate : Plate k w h f) where
+  pub plate-sizes : Sizes w h
+  plate-sizes = sizes-fit w h (passes (plate .sizes))
+
+  pub plate-some : 0 < length f
+  plate-some =
+      let s : Sizes w h = plate-sizes in
+      omega (arith, plate .long, mul-le-mul-right {m = 1} {n = w} h (s .width), s .height)
+
+  -- both grids are connected, so some set always qualifies
+  pub plate-grid : Grid (length f) (touch k w)
+  plate-grid = list-grid k w h f (plate-sizes .width) (plate .long ∙ mul-comm w h)
+
+  -- the list of the anchors numbers the nodes
+  pub plate-nodes : Nodes (length f) (touch k w) (grey f) (nodesOf k w f)
+  unfolding nodesOf
+  plate-nodes = anchors-nodes plate-grid (grey f) greatestGrey (plate .greys)
+
+  -- ---- the negative
+
+  pub negative-length : length (negative f) ≡ length f
+  unfolding negative
+  negative-length = length-map f (λ (g : ℕ). greatestGrey - g)
+
+  pub negative-grey : (p : ℕ) → p < length f → grey (negative f) p ≡ greatestGrey - grey f p
+  unfolding negative
+  negative-grey p l = grey-map (λ (g : ℕ). greatestGrey - g) f p l
+
+  pub negative-plate : Plate k w h (negative f)
+  negative-plate = record {
+    kind = plate .kind;
+    sizes = plate .sizes;
+    long = negative-length ∙ plate .long;
+    greys = λ p l. omega (arith, negative-grey p (rw negative-length at l));
+  }
+
+  -- ---- the opening
+
+  pub opened-length : (limit : ℕ) → length (opened k w limit f) ≡ length f
+  unfolding opened
+  opened-length limit = length-table (length f) (openedAt (length f) (touch k w) (atLeast (attribute (length f)) limit) (grey f))
+
+  pub opened-grey : (limit p : ℕ) → p < length f
+      → grey (opened k w limit f) p ≡ openedAt (length f) (touch k w) (atLeast (attribute (length f)) limit) (grey f) p
+  unfolding opened
+  opened-grey limit = grey-table (length f) (openedAt (length f) (touch k w) (atLeast (attribute (length f)) limit) (grey f))
+
+  pub at-limit : (limit : ℕ) → limit ≤ length f → Criterion (length f) (atLeast (attribute (length f)) limit)
+  at-limit = attribute-criterion (area-attribute (length f))
+
+  pub opened-below-plate : (limit p : ℕ) → limit ≤ length f → p < length f → grey (opened k w limit f) p ≤ grey f p
+  opened-below-plate limit p m l = omega (arith, opened-grey limit p l, opened-below plate-grid (at-limit limit m) (grey f) p)
+
+  pub opened-plate : (limit : ℕ) → limit ≤ length f → Plate k w h (opened k w limit f)
+  opened-plate limit m = record {
+    kind = plate .kind;
+    sizes = plate .sizes;
+    long = opened-length limit ∙ plate .long;
+    greys = λ p l.
+        let b : p < length f = rw (opened-length limit) at l in
+        omega (arith, opened-below-plate limit p m b, plate .greys p b);
+  }
+
+  -- ---- the cut
+
+  pub cut-grey : (limit p : ℕ) → p < length f
+      → grey (cut k w limit f) p ≡ cutAt (length f) (touch k w) (grey f) (nodesOf k w f) (atLeast (attribute (length f)) limit) p
+  unfolding cut
+  cut-grey limit = grey-table (length f) (cutAt (length f) (touch k w) (grey f) (nodesOf k w f) (atLeast (attribute (length f)) limit))
+
+  pub cut-is-opened : (limit : ℕ) → limit ≤ length f → cut k w limit f ≡ opened k w limit f
+  unfolding cut opened
+  cut-is-opened limit m =
+      table-same (length f)
+      (cutAt (length f) (touch k w) (grey f) (nodesOf k w f) (atLeast (attribute (length f)) limit))
+      (openedAt (length f) (touch k w) (atLeast (attribute (length f)) limit) (grey f))
+      (cut-opened plate-grid (at-limit limit m) plate-nodes)
+
+  -- ---- darkest and total grey
+
+  root-grey : (p : ℕ) → p < length f → grey f (nth (nodesOf k w f) 0) ≤ grey f p
+  root-grey = root-level plate-grid plate-nodes
+
+  pub darkest-root : darkest f ≡ grey f (nth (nodesOf k w f) 0)
+  unfolding darkest
+  darkest-root =
+      let a : ℕ = nth (nodesOf k w f) 0 in
+      let la : a < length f = nth-inside plate-grid plate-nodes 0 (some-node plate-grid plate-nodes 0 plate-some) in
+      let r : Lowest (suc greatestGrey) (elem f) (lowest (suc greatestGrey) (elem f)) = lowest-is (suc greatestGrey) (elem f) in
+      let le : lowest (suc greatestGrey) (elem f) ≤ grey f a = r .least (grey f a) (omega (arith, plate .greys a la)) (elem-nth f a la) in
+      let at : T (elem f (lowest (suc greatestGrey) (elem f))) = r .passes (omega (arith, plate .greys a la)) in
+      let q = place-is f (lowest (suc greatestGrey) (elem f)) at in
+      le-antisymm le (omega (arith, root-grey (place f (lowest (suc greatestGrey) (elem f))) (q .0), q .1))
+
+  pub total-cut : (limit : ℕ) → total (cut k w limit f)
+      ≡ sum (length f) (cutAt (length f) (touch k w) (grey f) (nodesOf k w f) (atLeast (attribute (length f)) limit))
+  unfolding total cut
+  total-cut limit =
+      let g : ℕ → ℕ = cutAt (length f) (touch k w) (grey f) (nodesOf k w f) (atLeast (attribute (length f)) limit) in
+      ap (λ (n : ℕ). sum n (grey (table (length f) g))) (length-table (length f) g)
+      ∙ sum-cong (length f) (grey (table (length f) g)) g (grey-table (length f) g)
+
+-- ---- the closing
+
+module _ {k w h : ℕ} {f : List ℕ} (plate : Plate k w h f) where
+  pub closed-length : (limit : ℕ) → length (closed k w limit f) ≡ length f
+  unfolding closed negative
+  closed-length limit = length-map (opened k w limit (negative f)) (λ (g : ℕ). greatestGrey - g) ∙ opened-length (negative-plate plate) limit ∙ negative-length plate
+
+  pub closed-grey : (limit p : ℕ) → p < length f → grey (closed k w limit f) p ≡ greatestGrey - grey (opened k w limit (negative f)) p
+  unfolding closed negative
+  closed-grey limit p l =
+      grey-map (λ (g : ℕ). greatestGrey - g) (opened k w limit (negative f)) p
+      (omega (arith, opened-length (negative-plate plate) limit, negative-length plate))

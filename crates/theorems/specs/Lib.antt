@@ -1,0 +1,2 @@
+-- What the theorems speak of beside the definitions of `meaning`.
+pub mod Sizes

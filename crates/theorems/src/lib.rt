@@ -1,0 +1,1 @@
+// The theorems stand in proofs/Theorems.antt; this crate has no functions.

@@ -1,0 +1,143 @@
+//! The grid of a plate: its bounds, its touching pixels, its components.
+
+/// The greatest width and the greatest height.
+pub const MAX_SIDE: u32 = 32_768;
+/// The greatest number of pixels.
+pub const MAX_PIXELS: u64 = 16_777_216;
+
+/// A grid that has passed the checks, with its connectivity.
+#[derive(Clone, Copy, Debug, PartialEq, Eq)]
+pub struct Grid {
+    pub width: usize,
+    pub height: usize,
+    pub connectivity: u32,
+}
+
+/// Is this a connectivity?
+pub fn is_connectivity(connectivity: u32) -> bool {
+    connectivity == 4 || connectivity == 8
+}
+
+/// Is this a width, or a height, taken alone?
+pub fn is_side(side: u32) -> bool {
+    (1..=MAX_SIDE).contains(&side)
+}
+
+/// Are width, height and their product all within the grid?
+pub fn is_size(width: u32, height: u32) -> bool {
+    is_side(width) && is_side(height) && u64::from(width) * u64::from(height) <= MAX_PIXELS
+}
+
+/// The checks that begin every operation on a plate: 1, then 2, then 3.
+pub fn check_plate(plate: &[u8], width: u32, height: u32, connectivity: u32) -> Result<Grid, u32> {
+    if !is_connectivity(connectivity) {
+        return Err(1);
+    }
+    if !is_size(width, height) {
+        return Err(2);
+    }
+    let grid = Grid::new(width, height, connectivity);
+    if plate.len() != grid.pixels() {
+        return Err(3);
+    }
+    Ok(grid)
+}
+
+/// Do two pixels of a plate of this width touch?
+pub fn touching(width: usize, connectivity: u32, p: usize, q: usize) -> bool {
+    let rows = (p / width).abs_diff(q / width);
+    let columns = (p % width).abs_diff(q % width);
+    near(connectivity, rows, columns)
+}
+
+/// Do pixels this many rows and columns apart touch?
+fn near(connectivity: u32, rows: usize, columns: usize) -> bool {
+    if connectivity == 4 {
+        rows + columns == 1
+    } else {
+        rows.max(columns) == 1
+    }
+}
+
+impl Grid {
+    /// A grid from numbers that have passed the checks.
+    pub fn new(width: u32, height: u32, connectivity: u32) -> Grid {
+        Grid {
+            width: width as usize,
+            height: height as usize,
+            connectivity,
+        }
+    }
+
+    /// The number of pixels.
+    pub fn pixels(&self) -> usize {
+        self.width * self.height
+    }
+
+    /// The pixels that touch pixel p.
+    pub fn neighbours(&self, p: usize) -> impl Iterator<Item = usize> {
+        let grid = *self;
+        let (row, column) = (p / grid.width, p % grid.width);
+        let last_row = (row + 1).min(grid.height - 1);
+        let last_column = (column + 1).min(grid.width - 1);
+        (row.saturating_sub(1)..=last_row).flat_map(move |r| {
+            (column.saturating_sub(1)..=last_column)
+                .filter(move |&c| near(grid.connectivity, r.abs_diff(row), c.abs_diff(column)))
+                .map(move |c| r * grid.width + c)
+        })
+    }
+
+    /// Flood fill from a member pixel: its component, pixel numbers rising.
+    fn flood(&self, start: usize, member: &dyn Fn(usize) -> bool, seen: &mut [bool]) -> Vec<usize> {
+        let mut found = vec![start];
+        seen[start] = true;
+        let mut next = 0;
+        while next < found.len() {
+            let p = found[next];
+            next += 1;
+            for q in self.neighbours(p) {
+                if !seen[q] && member(q) {
+                    seen[q] = true;
+                    found.push(q);
+                }
+            }
+        }
+        found.sort_unstable();
+        found
+    }
+
+    /// The connected components of the set of member pixels.
+    pub fn components(&self, member: &dyn Fn(usize) -> bool) -> Vec<Vec<usize>> {
+        let mut seen = vec![false; self.pixels()];
+        let mut all = Vec::new();
+        for p in 0..self.pixels() {
+            if !seen[p] && member(p) {
+                all.push(self.flood(p, member, &mut seen));
+            }
+        }
+        all
+    }
+
+    /// The connected components of "grey at least t".
+    pub fn components_at_least(&self, plate: &[u8], t: u8) -> Vec<Vec<usize>> {
+        self.components(&|p| plate[p] >= t)
+    }
+
+    /// The flat zones: the greatest connected sets of one grey.
+    pub fn flat_zones(&self, plate: &[u8]) -> Vec<Vec<usize>> {
+        let mut seen = vec![false; self.pixels()];
+        let mut zones = Vec::new();
+        for p in 0..self.pixels() {
+            if !seen[p] {
+                zones.push(self.flood(p, &|q| plate[q] == plate[p], &mut seen));
+            }
+        }
+        zones
+    }
+}
+
+/// The greys that occur in the plate, rising. Any other threshold t gives the
+/// same set "grey at least t" as the next grey above it, or the empty set.
+pub fn thresholds(plate: &[u8]) -> Vec<u8> {
+    (0..=255).filter(|t| plate.contains(t)).collect()
+}

@@ -1,0 +1,38 @@
+//! Livukoe's second program: every operation of paper 01, by brute force.
+//!
+//! Nothing here is clever on purpose. Sets of pixels are found by flood fill
+//! and kept as lists, and each answer is read off those lists as the paper
+//! words it. It serves only to be set against the proved program.
+
+#![forbid(unsafe_code)]
+
+pub mod grid;
+pub mod ink;
+pub mod maxima;
+pub mod nodes;
+pub mod pgm;
+pub mod record;
+pub mod sieve;
+pub mod sizes;
+pub mod text;
+pub mod varint;
+pub mod work;
+
+pub use grid::{touching, Grid};
+pub use ink::ink_percentage;
+pub use maxima::regional_maxima;
+pub use nodes::{node_list, NodeColumns, NodeCount};
+pub use pgm::{read_pgm, PlateHead};
+pub use record::{cut_record, read_record, write_record, RecordHead, RecordLength};
+pub use sieve::{area_close, area_open};
+pub use sizes::{size_list, SizeHead};
+pub use text::sizelist_text;
+
+/// The answer of an operation that says only whether it refused (0: it did not).
+#[derive(Clone, Copy, Debug, Default, PartialEq, Eq)]
+pub struct Done {
+    pub refusal: u32,
+}
+
+#[cfg(test)]
+mod tests;

@@ -1,0 +1,172 @@
+//! The nodes of a plate, kept as sets of pixels, and the node list.
+
+use std::collections::BTreeSet;
+
+use crate::grid::{check_plate, thresholds, Grid};
+use crate::work::{check_work, zero_work};
+
+/// A node: its set of pixels (numbers rising) and what the paper names of it.
+#[derive(Clone, Debug, PartialEq, Eq)]
+pub struct Node {
+    pub pixels: Vec<usize>,
+    pub level: u8,
+    pub area: usize,
+    pub anchor: usize,
+    pub parent: usize,
+}
+
+/// The lent columns of the node list.
+#[derive(Debug)]
+pub struct NodeColumns<'a> {
+    pub levels: &'a mut [u8],
+    pub parents: &'a mut [u32],
+    pub areas: &'a mut [u32],
+    pub anchors: &'a mut [u32],
+}
+
+/// The answer of the node list.
+#[derive(Clone, Copy, Debug, Default, PartialEq, Eq)]
+pub struct NodeCount {
+    pub refusal: u32,
+    pub count: u32,
+}
+
+/// Lists the nodes as columns. The root's parent is given as 0.
+pub fn node_list(
+    plate: &[u8],
+    width: u32,
+    height: u32,
+    connectivity: u32,
+    columns: NodeColumns,
+    work: &mut [u32],
+) -> NodeCount {
+    match list_nodes(plate, (width, height, connectivity), columns, work) {
+        Ok(count) => NodeCount { refusal: 0, count },
+        Err(refusal) => NodeCount { refusal, count: 0 },
+    }
+}
+
+/// The node list with its conditions: 1, 2, 3, 6, 5.
+fn list_nodes(
+    plate: &[u8],
+    (width, height, connectivity): (u32, u32, u32),
+    columns: NodeColumns,
+    work: &mut [u32],
+) -> Result<u32, u32> {
+    let grid = check_plate(plate, width, height, connectivity)?;
+    check_work(work, grid.pixels())?;
+    zero_work(work, grid.pixels());
+    let nodes = nodes_of(&grid, plate);
+    if nodes.len() > columns.places() {
+        return Err(5);
+    }
+    for (i, node) in nodes.iter().enumerate() {
+        columns.levels[i] = node.level;
+        columns.parents[i] = node.parent as u32;
+        columns.areas[i] = node.area as u32;
+        columns.anchors[i] = node.anchor as u32;
+    }
+    Ok(nodes.len() as u32)
+}
+
+impl NodeColumns<'_> {
+    /// The places of the shortest column.
+    fn places(&self) -> usize {
+        let first = self.levels.len().min(self.parents.len());
+        first.min(self.areas.len()).min(self.anchors.len())
+    }
+}
+
+/// All nodes, numbered by level rising, then anchor rising.
+pub fn nodes_of(grid: &Grid, plate: &[u8]) -> Vec<Node> {
+    let sets = node_sets(grid, plate, &thresholds(plate));
+    let mut nodes: Vec<Node> = sets
+        .into_iter()
+        .map(|pixels| described(plate, pixels))
+        .collect();
+    nodes.sort_by_key(|node| (node.level, node.anchor));
+    let holders = holders_of(&nodes, grid.pixels());
+    for i in 0..nodes.len() {
+        nodes[i].parent = parent_of(&nodes, &holders, i);
+    }
+    nodes
+}
+
+/// The components of "grey at least t" for each t given, duplicates dropped.
+pub fn node_sets(grid: &Grid, plate: &[u8], ts: &[u8]) -> BTreeSet<Vec<usize>> {
+    let mut sets = BTreeSet::new();
+    for &t in ts {
+        sets.extend(grid.components_at_least(plate, t));
+    }
+    sets
+}
+
+/// A node from its set of pixels, its parent still to be found.
+fn described(plate: &[u8], pixels: Vec<usize>) -> Node {
+    let level = pixels.iter().map(|&p| plate[p]).min().unwrap_or(0);
+    let at_level = pixels.iter().copied().filter(|&p| plate[p] == level);
+    Node {
+        level,
+        area: pixels.len(),
+        anchor: at_level.min().unwrap_or(0),
+        parent: 0,
+        pixels,
+    }
+}
+
+/// For each pixel the numbers of the nodes containing it, area rising.
+fn holders_of(nodes: &[Node], pixels: usize) -> Vec<Vec<usize>> {
+    let mut by_area: Vec<usize> = (0..nodes.len()).collect();
+    by_area.sort_by_key(|&i| nodes[i].area);
+    let mut holders = vec![Vec::new(); pixels];
+    for i in by_area {
+        for &p in &nodes[i].pixels {
+            holders[p].push(i);
+        }
+    }
+    holders
+}
+
+/// The smallest node strictly containing node i; 0 for the root. A node that
+/// contains node i contains its anchor, so only those holders are looked at.
+fn parent_of(nodes: &[Node], holders: &[Vec<usize>], i: usize) -> usize {
+    holders[nodes[i].anchor]
+        .iter()
+        .copied()
+        .find(|&j| strictly_contains(&nodes[j], &nodes[i]))
+        .unwrap_or(0)
+}
+
+/// Does the outer set hold every pixel of the inner one, and more?
+fn strictly_contains(outer: &Node, inner: &Node) -> bool {
+    outer.area > inner.area
+        && inner
+            .pixels
+            .iter()
+            .all(|p| outer.pixels.binary_search(p).is_ok())
+}
+
+/// Each pixel's own node: the one containing it whose level is its grey.
+pub fn own_nodes(plate: &[u8], nodes: &[Node]) -> Vec<usize> {
+    let mut own = vec![0; plate.len()];
+    for (i, node) in nodes.iter().enumerate() {
+        for &p in &node.pixels {
+            if plate[p] == node.level {
+                own[p] = i;
+            }
+        }
+    }
+    own
+}
+
+/// The cut at a limit: at each pixel the highest level among the nodes
+/// containing it with area at least the limit.
+pub fn cut_of(nodes: &[Node], pixels: usize, limit: usize) -> Vec<u8> {
+    let mut cut = vec![0; pixels];
+    for node in nodes.iter().filter(|node| node.area >= limit) {
+        for &p in &node.pixels {
+            cut[p] = node.level.max(cut[p]);
+        }
+    }
+    cut
+}

@@ -1,0 +1,100 @@
+//! Reading a plate file, the binary form of PGM.
+
+use crate::grid::is_size;
+
+/// The answer of reading a plate file.
+#[derive(Clone, Copy, Debug, Default, PartialEq, Eq)]
+pub struct PlateHead {
+    pub refusal: u32,
+    pub width: u32,
+    pub height: u32,
+}
+
+/// Reads a plate file into a plate.
+pub fn read_pgm(file: &[u8], out: &mut [u8]) -> PlateHead {
+    match read_checked(file, out) {
+        Ok((width, height)) => PlateHead {
+            refusal: 0,
+            width,
+            height,
+        },
+        Err(refusal) => PlateHead {
+            refusal,
+            ..PlateHead::default()
+        },
+    }
+}
+
+/// Reading with its conditions: 10, 11, 2, 12, 14, 15, 5.
+fn read_checked(file: &[u8], out: &mut [u8]) -> Result<(u32, u32), u32> {
+    let behind_letters = file.strip_prefix(b"P5").ok_or(10u32)?;
+    let ((width, height, third), raster) = take_numbers(behind_letters).ok_or(11u32)?;
+    if !is_size(width, height) {
+        return Err(2);
+    }
+    if third != 255 {
+        return Err(12);
+    }
+    let pixels = (width * height) as usize;
+    if raster.len() < pixels {
+        return Err(14);
+    }
+    if raster.len() > pixels {
+        return Err(15);
+    }
+    if out.len() < pixels {
+        return Err(5);
+    }
+    out[..pixels].copy_from_slice(raster);
+    Ok((width, height))
+}
+
+/// The header's three numbers.
+type Numbers = (u32, u32, u32);
+
+/// Takes gap, width, gap, height, gap, third number and one blank off the
+/// front; also hands back the bytes behind them.
+fn take_numbers(bytes: &[u8]) -> Option<(Numbers, &[u8])> {
+    let (width, bytes) = take_number(skip_gap(bytes)?)?;
+    let (height, bytes) = take_number(skip_gap(bytes)?)?;
+    let (third, bytes) = take_number(skip_gap(bytes)?)?;
+    let (blank, raster) = bytes.split_first()?;
+    is_blank(*blank).then_some(((width, height, third), raster))
+}
+
+/// A space, tab, CR or LF.
+fn is_blank(byte: u8) -> bool {
+    matches!(byte, b' ' | b'\t' | b'\r' | b'\n')
+}
+
+/// Skips a gap: one blank, then any mix of blanks and comments. None without
+/// the blank, or when a comment does not end.
+fn skip_gap(bytes: &[u8]) -> Option<&[u8]> {
+    let mut at = 0;
+    let mut in_comment = false;
+    while at < bytes.len() {
+        let byte = bytes[at];
+        if in_comment {
+            in_comment = byte != b'\r' && byte != b'\n';
+        } else if byte == b'#' && at > 0 {
+            in_comment = true;
+        } else if !is_blank(byte) {
+            break;
+        }
+        at += 1;
+    }
+    (at > 0 && !in_comment).then_some(&bytes[at..])
+}
+
+/// Takes a number of one to five digits; a longer run of digits is none.
+fn take_number(bytes: &[u8]) -> Option<(u32, &[u8])> {
+    let digits = bytes.iter().take_while(|b| b.is_ascii_digit()).count();
+    if !(1..=5).contains(&digits) {
+        return None;
+    }
+    let (number, behind) = bytes.split_at(digits);
+    let value = number
+        .iter()
+        .fold(0, |value, digit| value * 10 + u32::from(digit - b'0'));
+    Some((value, behind))
+}

@@ -1,0 +1,95 @@
+//! The size list of a record.
+
+use crate::grid::Grid;
+use crate::nodes::{cut_of, Node};
+use crate::record::accept_record;
+
+/// The answer of the size list.
+#[derive(Clone, Copy, Debug, Default, PartialEq, Eq)]
+pub struct SizeHead {
+    pub refusal: u32,
+    pub width: u32,
+    pub height: u32,
+    pub connectivity: u32,
+    pub nodes: u32,
+    pub darkest: u8,
+}
+
+/// Makes the size list: place a - 1 of the tables is for area a.
+pub fn size_list(
+    record: &[u8],
+    counts: &mut [u32],
+    losses: &mut [u64],
+    work: &mut [u32],
+) -> SizeHead {
+    match size_checked(record, counts, losses, work) {
+        Ok(head) => head,
+        Err(refusal) => SizeHead {
+            refusal,
+            ..SizeHead::default()
+        },
+    }
+}
+
+/// The size list with its conditions: up to 24, then 5.
+fn size_checked(
+    record: &[u8],
+    counts: &mut [u32],
+    losses: &mut [u64],
+    work: &mut [u32],
+) -> Result<SizeHead, u32> {
+    let held = accept_record(record, work)?;
+    let sizes = sizes_of(&held.grid, &held.plate, &held.nodes);
+    let places = held.grid.pixels() - 1;
+    if counts.len() < places || losses.len() < places {
+        return Err(5);
+    }
+    counts[..places].copy_from_slice(&sizes.counts);
+    losses[..places].copy_from_slice(&sizes.losses);
+    Ok(SizeHead {
+        refusal: 0,
+        width: held.grid.width as u32,
+        height: held.grid.height as u32,
+        connectivity: held.grid.connectivity,
+        nodes: held.nodes.len() as u32,
+        darkest: sizes.darkest,
+    })
+}
+
+/// The tables for areas 1 to pixels minus 1, and the rest.
+pub struct Sizes {
+    pub counts: Vec<u32>,
+    pub losses: Vec<u64>,
+    pub darkest: u8,
+}
+
+/// Counts the nodes of each area and the grey lost there.
+pub fn sizes_of(grid: &Grid, plate: &[u8], nodes: &[Node]) -> Sizes {
+    let pixels = grid.pixels();
+    let mut counts = vec![0u32; pixels - 1];
+    for node in nodes.iter().filter(|node| node.area < pixels) {
+        counts[node.area - 1] += 1;
+    }
+    // Without a node of area a, the same nodes make the cuts at a and a + 1.
+    let losses = (1..pixels)
+        .map(|a| match counts[a - 1] {
+            0 => 0,
+            _ => grey_lost(nodes, pixels, a),
+        })
+        .collect();
+    let darkest = plate.iter().copied().min().unwrap_or(0);
+    Sizes {
+        counts,
+        losses,
+        darkest,
+    }
+}
+
+/// The sum over pixels of the cut at a minus the cut at a + 1.
+pub fn grey_lost(nodes: &[Node], pixels: usize, a: usize) -> u64 {
+    let before = cut_of(nodes, pixels, a);
+    let after = cut_of(nodes, pixels, a + 1);
+    (0..pixels)
+        .map(|p| u64::from(before[p]) - u64::from(after[p]))
+        .sum()
+}

@@ -1,0 +1,9 @@
+//! Tests on the paper's examples, its refusals and its properties.
+
+mod examples;
+mod helpers;
+mod literal;
+mod order;
+mod properties;
+mod refusals;
+mod slips;

@@ -1,0 +1,151 @@
+//! All of the paper's examples.
+
+use super::helpers::*;
+use crate::*;
+
+/// The small plate's size, with all of 10 except these pixels.
+fn tens_except(others: &[(usize, u8)]) -> Vec<u8> {
+    let mut plate = vec![10; 12];
+    for &(p, grey) in others {
+        plate[p] = grey;
+    }
+    plate
+}
+
+#[test]
+fn opening_with_connectivity_4() {
+    assert_eq!(opened(&SMALL, 4, 3, 4, 1), SMALL);
+    assert_eq!(opened(&SMALL, 4, 3, 4, 2), tens_except(&[(5, 30), (6, 30)]));
+    assert_eq!(opened(&SMALL, 4, 3, 4, 3), tens_except(&[]));
+    assert_eq!(opened(&SMALL, 4, 3, 4, 12), tens_except(&[]));
+}
+
+#[test]
+fn opening_with_connectivity_8() {
+    let three = tens_except(&[(5, 30), (6, 30), (11, 30)]);
+    assert_eq!(opened(&SMALL, 4, 3, 8, 2), three);
+    assert_eq!(opened(&SMALL, 4, 3, 8, 3), three);
+    assert_eq!(opened(&SMALL, 4, 3, 8, 4), tens_except(&[]));
+}
+
+#[test]
+fn closing_with_connectivity_4() {
+    assert_eq!(closed(&SMALL, 4, 3, 4, 9), SMALL);
+    let raised: Vec<u8> = SMALL.iter().map(|&grey| grey.max(30)).collect();
+    assert_eq!(closed(&SMALL, 4, 3, 4, 10), raised);
+}
+
+#[test]
+fn ink_of_the_ends() {
+    assert_eq!(ink_percentage(0), 100);
+    assert_eq!(ink_percentage(255), 0);
+}
+
+#[test]
+fn cuts_give_the_opened_plates() {
+    for limit in 1..=12 {
+        let (answer, cut) = cut_back(&SMALL_RECORD, limit, 12);
+        assert_eq!(answer, head(4, 3, 4));
+        assert_eq!(cut, opened(&SMALL, 4, 3, 4, limit));
+    }
+}
+
+#[test]
+fn limits_0_and_13_give_4() {
+    for limit in [0, 13] {
+        let (mut out, mut work) = ([BYTE; 12], work_of(96));
+        let opening = area_open(&SMALL, 4, 3, 4, limit, &mut out, &mut work);
+        let closing = area_close(&SMALL, 4, 3, 4, limit, &mut out, &mut work);
+        assert_eq!((opening.refusal, closing.refusal), (4, 4));
+        assert!(work_untouched(&work));
+        let cutting = cut_record(&SMALL_RECORD, limit, &mut out, &mut work);
+        assert_eq!(cutting.refusal, 4);
+        assert_eq!(out, [BYTE; 12]);
+        assert!(work_zeroed(&work, 12));
+    }
+}
+
+#[test]
+fn the_record_of_the_small_plate() {
+    assert_eq!(written(&SMALL, 4, 3, 4), SMALL_RECORD);
+    let (answer, plate) = read_back(&SMALL_RECORD, 12);
+    assert_eq!(answer, head(4, 3, 4));
+    assert_eq!(plate, SMALL);
+}
+
+#[test]
+fn the_nodes_of_the_small_plate() {
+    let columns = listed(&SMALL, 4, 3, 4);
+    assert_eq!(columns.levels, [10, 30, 50, 90]);
+    assert_eq!(columns.parents, [0, 0, 1, 0]);
+    assert_eq!(columns.areas, [12, 2, 1, 1]);
+    assert_eq!(columns.anchors, [0, 6, 5, 11]);
+}
+
+#[test]
+fn the_maxima_of_the_small_plate() {
+    let marks = [0, 0, 0, 0, 0, 1, 0, 0, 0, 0, 0, 1];
+    assert_eq!(marked(&SMALL, 4, 3, 4), marks);
+    assert_eq!(marked(&SMALL, 4, 3, 8), marks);
+    assert_eq!(marked(&[33; 6], 3, 2, 4), [1; 6]);
+}
+
+#[test]
+fn the_size_list_of_the_small_plate() {
+    let (answer, counts, losses) = sized(&SMALL_RECORD, 12);
+    let expected = SizeHead {
+        refusal: 0,
+        width: 4,
+        height: 3,
+        connectivity: 4,
+        nodes: 4,
+        darkest: 10,
+    };
+    assert_eq!(answer, expected);
+    assert_eq!(counts, [2, 1, 0, 0, 0, 0, 0, 0, 0, 0, 0]);
+    assert_eq!(losses, [100, 40, 0, 0, 0, 0, 0, 0, 0, 0, 0]);
+}
+
+#[test]
+fn the_text_of_the_small_plate() {
+    let text = sizelist_text(&plate_file(&SMALL, 4, 3));
+    assert_eq!(text, "size 4 3 4 4\n1 2 100\n2 1 40\nrest 10 96\n");
+}
+
+#[test]
+fn a_record_of_132_and_0_gives_21() {
+    for tail in [&[][..], &[3, 4, 4], &[128], &SMALL_RECORD] {
+        let record = [&[132, 0], tail].concat();
+        let (mut out, mut work) = ([BYTE; 12], work_of(96));
+        let answer = read_record(&record, &mut out, &mut work);
+        assert_eq!(answer.refusal, 21);
+        assert_eq!(cut_record(&record, 1, &mut out, &mut work).refusal, 21);
+        assert_eq!(out, [BYTE; 12]);
+        assert!(work_untouched(&work));
+    }
+}
+
+#[test]
+fn one_pixel_of_grey_7() {
+    for connectivity in [4, 8] {
+        assert_eq!(opened(&[7], 1, 1, connectivity, 1), [7]);
+        assert_eq!(closed(&[7], 1, 1, connectivity, 1), [7]);
+        assert_eq!(marked(&[7], 1, 1, connectivity), [1]);
+        let record = written(&[7], 1, 1, connectivity);
+        assert_eq!(record, [1, 1, connectivity as u8, 1, 7, 1, 0]);
+        let (answer, counts, losses) = sized(&record, 1);
+        assert_eq!((answer.nodes, answer.darkest), (1, 7));
+        assert!(counts.is_empty() && losses.is_empty());
+    }
+    let text = sizelist_text(&plate_file(&[7], 1, 1));
+    assert_eq!(text, "size 1 1 4 1\nrest 7 97\n");
+}
+
+#[test]
+fn ink_is_the_nearest_whole_number() {
+    for grey in 0..=255u8 {
+        let exact = (255 - u32::from(grey)) * 100;
+        let twice = 2 * 255 * ink_percentage(grey);
+        assert!(2 * exact < twice + 255 && twice < 2 * exact + 255);
+    }
+}

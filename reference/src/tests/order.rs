@@ -1,0 +1,168 @@
+//! The first condition in the paper's order decides: inputs that meet every
+//! condition of an operation at once, mended one condition after another.
+
+use super::helpers::*;
+use crate::*;
+
+#[test]
+fn opening_and_closing_in_order() {
+    let small = SMALL.to_vec();
+    let long = vec![0; 13];
+    let cases = [
+        (&long, 0, 3, 3, 0, 0, 0, 1),
+        (&long, 0, 3, 4, 0, 0, 0, 2),
+        (&long, 4, 3, 4, 0, 0, 0, 3),
+        (&small, 4, 3, 4, 0, 0, 0, 4),
+        (&small, 4, 3, 4, 12, 0, 0, 5),
+        (&small, 4, 3, 4, 12, 12, 0, 6),
+        (&small, 4, 3, 4, 12, 12, 96, 0),
+    ];
+    for (plate, w, h, c, limit, places, entries, number) in cases {
+        let (mut out, mut work) = (vec![BYTE; places], work_of(entries));
+        let opening = area_open(plate, w, h, c, limit, &mut out, &mut work);
+        let (mut out, mut work) = (vec![BYTE; places], work_of(entries));
+        let closing = area_close(plate, w, h, c, limit, &mut out, &mut work);
+        assert_eq!((opening.refusal, closing.refusal), (number, number));
+        assert_eq!(work_untouched(&work), number != 0);
+    }
+}
+
+#[test]
+fn marking_in_order() {
+    let small = SMALL.to_vec();
+    let long = vec![0; 13];
+    let cases = [
+        (&long, 0, 3, 3, 0, 0, 1),
+        (&long, 0, 3, 4, 0, 0, 2),
+        (&long, 4, 3, 4, 0, 0, 3),
+        (&small, 4, 3, 4, 0, 0, 5),
+        (&small, 4, 3, 4, 12, 0, 6),
+        (&small, 4, 3, 4, 12, 96, 0),
+    ];
+    for (plate, w, h, c, places, entries, number) in cases {
+        let (mut out, mut work) = (vec![BYTE; places], work_of(entries));
+        let marking = regional_maxima(plate, w, h, c, &mut out, &mut work);
+        assert_eq!(marking.refusal, number);
+    }
+}
+
+#[test]
+fn listing_and_writing_in_order() {
+    let small = SMALL.to_vec();
+    let long = vec![0; 13];
+    let cases = [
+        (&long, 0, 3, 3, 0, 0, 1),
+        (&long, 0, 3, 4, 0, 0, 2),
+        (&long, 4, 3, 4, 0, 0, 3),
+        (&small, 4, 3, 4, 0, 0, 6),
+        (&small, 4, 3, 4, 0, 96, 5),
+        (&small, 4, 3, 4, 27, 96, 0),
+    ];
+    for (plate, w, h, c, places, entries, number) in cases {
+        let (mut out, mut work) = (vec![BYTE; places], work_of(entries));
+        let writing = write_record(plate, w, h, c, &mut out, &mut work);
+        let mut columns = Columns::of([places; 4]);
+        let listing = node_list(plate, w, h, c, columns.lent(), &mut work);
+        assert_eq!((writing.refusal, listing.refusal), (number, number));
+    }
+}
+
+#[test]
+fn plate_files_in_order() {
+    let cases: [(&[u8], usize, u32); 9] = [
+        (b"p5 x 1 7", 0, 10),
+        (b"P5 0 x 7", 0, 11),
+        (b"P5 0 1 7", 0, 11),
+        (b"P5 0 1 7\n", 0, 2),
+        (b"P5 2 1 7\n", 0, 12),
+        (b"P5 2 1 255\n", 0, 14),
+        (b"P5 2 1 255\nabc", 0, 15),
+        (b"P5 2 1 255\nab", 0, 5),
+        (b"P5 2 1 255\nab", 2, 0),
+    ];
+    for (file, places, number) in cases {
+        let mut out = vec![BYTE; places];
+        assert_eq!(read_pgm(file, &mut out).refusal, number);
+    }
+}
+
+/// The refusals of reading, of cutting at the limit and of the size list.
+fn record_refusals(record: &[u8], limit: u32, places: usize, entries: usize) -> [u32; 3] {
+    let (mut out, mut work) = (vec![BYTE; places], work_of(entries));
+    let (mut counts, mut losses) = (vec![WORD; places], vec![LONG; places]);
+    [
+        read_record(record, &mut out, &mut work).refusal,
+        cut_record(record, limit, &mut out, &mut work).refusal,
+        size_list(record, &mut counts, &mut losses, &mut work).refusal,
+    ]
+}
+
+#[test]
+fn at_each_field_20_then_21_then_22() {
+    for at in 0..27 {
+        let before = &SMALL_RECORD[..at];
+        let work = 96;
+        let endless = [before, &[128; 9]].concat();
+        assert_eq!(record_refusals(&endless, 0, 0, work), [20; 3]);
+        let too_long = [before, &[255, 255, 255, 128, 0]].concat();
+        assert_eq!(record_refusals(&too_long, 0, 0, work), [21; 3]);
+        let too_great = [before, &[255, 255, 255, 127]].concat();
+        assert_eq!(record_refusals(&too_great, 0, 0, work), [22; 3]);
+    }
+}
+
+#[test]
+fn an_earlier_field_decides() {
+    for at in 0..26 {
+        let before = &SMALL_RECORD[..at];
+        let outside_then_short = [before, &[255, 255, 127]].concat();
+        assert_eq!(record_refusals(&outside_then_short, 0, 0, 96), [22; 3]);
+        let outside_then_long = [before, &[255, 255, 127, 128, 0]].concat();
+        assert_eq!(record_refusals(&outside_then_long, 0, 0, 96), [22; 3]);
+        let long_then_outside = [before, &[128, 0, 255, 255, 127]].concat();
+        assert_eq!(record_refusals(&long_then_outside, 0, 0, 96), [21; 3]);
+    }
+}
+
+#[test]
+fn short_work_space_stands_behind_the_node_count() {
+    for at in 0..27 {
+        let bad_here = [&SMALL_RECORD[..at], &[255, 255, 127]].concat();
+        let ends_here = &SMALL_RECORD[..at];
+        let (outside, ended) = if at < 4 { (22, 20) } else { (6, 6) };
+        assert_eq!(record_refusals(&bad_here, 0, 0, 95), [outside; 3]);
+        assert_eq!(record_refusals(ends_here, 0, 0, 95), [ended; 3]);
+    }
+}
+
+#[test]
+fn work_space_behind_and_ahead_of_6() {
+    for at in 0..27 {
+        for tail in [&[][..], &[128, 0], &[255, 255, 127]] {
+            let record = [&SMALL_RECORD[..at], tail].concat();
+            let (mut out, mut work) = ([BYTE; 12], work_of(99));
+            let answer = read_record(&record, &mut out, &mut work);
+            assert!(matches!(answer.refusal, 20..=22));
+            assert_eq!(out, [BYTE; 12]);
+            assert!(if at < 4 {
+                work_untouched(&work)
+            } else {
+                work_zeroed(&work, 12)
+            });
+        }
+    }
+}
+
+#[test]
+fn behind_the_fields_23_then_24_then_4_then_5() {
+    let mut differing = SMALL_RECORD.to_vec();
+    differing[8] = 3;
+    let left_over = [&differing[..], &[128]].concat();
+    assert_eq!(record_refusals(&left_over, 0, 0, 95), [6; 3]);
+    assert_eq!(record_refusals(&left_over, 0, 0, 96), [23; 3]);
+    assert_eq!(record_refusals(&differing, 0, 0, 96), [24; 3]);
+    assert_eq!(record_refusals(&SMALL_RECORD, 0, 0, 96), [5, 4, 5]);
+    assert_eq!(record_refusals(&SMALL_RECORD, 1, 0, 96), [5; 3]);
+    assert_eq!(record_refusals(&SMALL_RECORD, 1, 11, 96), [5, 5, 0]);
+    assert_eq!(record_refusals(&SMALL_RECORD, 1, 12, 96), [0; 3]);
+}

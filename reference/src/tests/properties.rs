@@ -1,0 +1,206 @@
+//! Random small plates through writing, reading, cutting and the size list,
+//! with the properties of the cuts and of the list checked by brute force.
+
+use super::helpers::*;
+use crate::maxima::maxima_of;
+use crate::*;
+
+fn total(plate: &[u8]) -> u64 {
+    plate.iter().map(|&grey| u64::from(grey)).sum()
+}
+
+fn nowhere_lighter(plate: &[u8], other: &[u8]) -> bool {
+    plate.iter().zip(other).all(|(grey, bound)| grey <= bound)
+}
+
+fn maxima_are_large(grid: &Grid, plate: &[u8], limit: u32) -> bool {
+    maxima_of(grid, plate)
+        .iter()
+        .all(|zone| zone.len() >= limit as usize)
+}
+
+#[test]
+fn records_read_back() {
+    let mut random = Lcg(30);
+    for round in 0..600 {
+        let (plate, width, height) = random.plate(8);
+        let connectivity = 4 + 4 * (round % 2);
+        let record = written(&plate, width, height, connectivity);
+        let (answer, back) = read_back(&record, plate.len());
+        assert_eq!(answer, head(width, height, connectivity));
+        assert_eq!(back, plate);
+    }
+}
+
+#[test]
+fn records_agree_with_the_node_list() {
+    let mut random = Lcg(31);
+    for round in 0..200 {
+        let (plate, width, height) = random.plate(6);
+        let connectivity = 4 + 4 * (round % 2);
+        let columns = listed(&plate, width, height, connectivity);
+        let (answer, counts, _) = sized(&written(&plate, width, height, connectivity), plate.len());
+        assert_eq!(answer.nodes as usize, columns.levels.len());
+        for (i, &count) in counts.iter().enumerate() {
+            let there = columns.areas.iter().filter(|&&a| a as usize == i + 1);
+            assert_eq!(there.count(), count as usize);
+        }
+        for i in 1..columns.levels.len() {
+            let parent = columns.parents[i] as usize;
+            assert!(parent < i && columns.levels[parent] < columns.levels[i]);
+            assert!(columns.areas[parent] > columns.areas[i]);
+        }
+    }
+}
+
+#[test]
+fn cuts_and_lists_of_random_plates() {
+    let mut random = Lcg(32);
+    for round in 0..250 {
+        let (plate, width, height) = random.plate(6);
+        let connectivity = 4 + 4 * (round % 2);
+        check_cuts_and_list(&plate, width, height, connectivity);
+    }
+}
+
+/// Cuts at every limit, each held against the plate and against opening;
+/// then the list held against the cuts.
+fn check_cuts_and_list(plate: &[u8], width: u32, height: u32, connectivity: u32) {
+    let n = plate.len();
+    let grid = Grid::new(width, height, connectivity);
+    let record = written(plate, width, height, connectivity);
+    let cuts: Vec<Vec<u8>> = (1..=n as u32)
+        .map(|limit| {
+            let (answer, cut) = cut_back(&record, limit, n);
+            assert_eq!(answer, head(width, height, connectivity));
+            assert!(nowhere_lighter(&cut, plate));
+            assert!(maxima_are_large(&grid, &cut, limit));
+            assert_eq!(cut, opened(plate, width, height, connectivity, limit));
+            cut
+        })
+        .collect();
+    check_list(plate, &record, &cuts);
+}
+
+fn check_list(plate: &[u8], record: &[u8], cuts: &[Vec<u8>]) {
+    let n = plate.len();
+    let (answer, counts, losses) = sized(record, n);
+    let darkest = plate.iter().copied().min().unwrap();
+    assert_eq!(answer.darkest, darkest);
+    assert_eq!(cuts[0], plate);
+    assert_eq!(cuts[n - 1], vec![darkest; n]);
+    for a in 1..n {
+        assert_eq!(losses[a - 1], total(&cuts[a - 1]) - total(&cuts[a]));
+        assert_eq!(losses[a - 1] > 0, counts[a - 1] > 0);
+    }
+    let lost: u64 = losses.iter().sum();
+    assert_eq!(total(plate), lost + n as u64 * u64::from(darkest));
+    assert_eq!(answer.nodes, 1 + counts.iter().sum::<u32>());
+}
+
+/// Every plate nowhere lighter than this one and with large maxima only is
+/// nowhere lighter than the cut.
+fn check_last_property(grid: &Grid, plate: &[u8]) {
+    let (w, h) = (grid.width as u32, grid.height as u32);
+    let record = written(plate, w, h, grid.connectivity);
+    for limit in 1..=plate.len() as u32 {
+        let (_, cut) = cut_back(&record, limit, plate.len());
+        let mut other = vec![0; plate.len()];
+        loop {
+            if maxima_are_large(grid, &other, limit) {
+                assert!(nowhere_lighter(&other, &cut));
+            }
+            if !step_below(plate, &mut other) {
+                break;
+            }
+        }
+    }
+}
+
+/// Steps to the next plate nowhere lighter than the bound, if there is one.
+fn step_below(bound: &[u8], plate: &mut [u8]) -> bool {
+    for (grey, top) in plate.iter_mut().zip(bound) {
+        if *grey < *top {
+            *grey += 1;
+            return true;
+        }
+        *grey = 0;
+    }
+    false
+}
+
+#[test]
+fn the_cut_is_the_lightest_with_large_maxima() {
+    let mut random = Lcg(33);
+    for (width, height) in [(1, 1), (4, 1), (2, 2), (3, 2), (2, 4), (3, 3)] {
+        for connectivity in [4, 8] {
+            let grid = Grid::new(width, height, connectivity);
+            for _ in 0..8 {
+                let greys = if grid.pixels() < 9 { 4 } else { 3 };
+                let plate: Vec<u8> = (0..grid.pixels())
+                    .map(|_| random.below(greys) as u8)
+                    .collect();
+                check_last_property(&grid, &plate);
+            }
+        }
+    }
+}
+
+#[test]
+fn altered_records_are_accepted_only_as_records() {
+    let mut random = Lcg(34);
+    let mut numbers = [0u32; 25];
+    for round in 0..6000 {
+        let (plate, width, height) = random.plate(3);
+        let mut record = written(&plate, width, height, 4 + 4 * (round % 2));
+        alter(&mut random, &mut record);
+        let (mut out, mut work) = (vec![BYTE; 200], work_of(1600));
+        let answer = read_record(&record, &mut out, &mut work);
+        numbers[answer.refusal as usize] += 1;
+        let n = (answer.width * answer.height) as usize;
+        assert!(out[n..].iter().all(|&byte| byte == BYTE));
+        if answer.refusal == 0 {
+            let again = written(&out[..n], answer.width, answer.height, answer.connectivity);
+            assert_eq!(again, record);
+        } else {
+            assert_eq!(
+                (answer.width, answer.height, answer.connectivity),
+                (0, 0, 0)
+            );
+        }
+    }
+    for number in [0, 20, 21, 22, 23, 24] {
+        assert!(numbers[number] > 0, "{number} never met");
+    }
+}
+
+/// Alters a record at one place: a byte changed, taken out or put in.
+fn alter(random: &mut Lcg, record: &mut Vec<u8>) {
+    let at = random.below(record.len() as u32) as usize;
+    let small = random.below(6) as u8;
+    match random.below(8) {
+        0 => record.truncate(at),
+        1 => record.push(small),
+        2 => record.insert(at, 128),
+        3 => record[at] = random.below(256) as u8,
+        4 => drop(record.remove(at)),
+        _ => record[at] = small,
+    }
+}
+
+#[test]
+fn the_text_goes_by_the_size_list() {
+    let mut random = Lcg(35);
+    for _ in 0..200 {
+        let (plate, width, height) = random.plate(7);
+        let (answer, counts, losses) = sized(&written(&plate, width, height, 4), plate.len());
+        let mut lines = vec![format!("size {width} {height} 4 {}", answer.nodes)];
+        for a in (1..plate.len()).filter(|a| counts[a - 1] > 0) {
+            lines.push(format!("{a} {} {}", counts[a - 1], losses[a - 1]));
+        }
+        let ink = ink_percentage(answer.darkest);
+        lines.push(format!("rest {} {ink}", answer.darkest));
+        let text = sizelist_text(&plate_file(&plate, width, height));
+        assert_eq!(text, lines.join("\n") + "\n");
+    }
+}
