@@ -9,9 +9,13 @@ ghost use Rattle.columns.specs.Layout.{PARENT};
 ghost use Rattle.values.specs.Values.{Parents, Cut, cutValue, Ones, Marked, Writable, outValue, Copyable};
 
 const OWN: usize = 1;
+
 const LEVEL: usize = 3;
+
 const VALUE: usize = 4;
+
 const PARENT: usize = 5;
+
 const AREA: usize = 7;
 
 // The value of node i: its level where its area is at least the limit, else its parent's value.

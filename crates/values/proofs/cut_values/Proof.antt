@@ -40,7 +40,7 @@ loop-again c =
     let l = c .before .before .before .before .before .before .before in (
       omega arith,
       cut-more (l .before .before .args .limit) (l .before .before .pre) (l .loop .inv .1) (c .before .before .before .before .before .before .loop-test .taken)
-      (c .before .before .before .before .cut-value .ensures .0) (c .before .before .put .ensures),
+          (c .before .before .before .before .cut-value .ensures .0) (c .before .before .put .ensures),
     )
 
 same-length : tie.Need-same-length Inv-loop μ-loop

@@ -50,7 +50,7 @@ loop-again c =
       omega arith,
       simp length-set (l .loop .inv .1),
       rw (l .loop .inv .2)
-      (written-more (col (s .c) (s .n) (now (s .w))) (l .loop .i) (c .get .result) (now (s .out)) (omega arith) (c .get .ensures .0)),
+          (written-more (col (s .c) (s .n) (now (s .w))) (l .loop .i) (c .get .result) (now (s .out)) (omega arith) (c .get .ensures .0)),
     )
 
 same-length : tie.Need-same-length Inv-loop μ-loop

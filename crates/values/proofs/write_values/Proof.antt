@@ -42,7 +42,7 @@ loop-again c =
       omega arith,
       simp length-set (l .loop .inv .1),
       rw (l .loop .inv .2)
-      (written-more (outValue (s .negated) (s .n) (now (s .w))) (l .loop .p) (c .out-value .result) (now (s .out)) (omega arith) (c .out-value .ensures)),
+          (written-more (outValue (s .negated) (s .n) (now (s .w))) (l .loop .p) (c .out-value .result) (now (s .out)) (omega arith) (c .out-value .ensures)),
     )
 
 same-length : tie.Need-same-length Inv-loop μ-loop
