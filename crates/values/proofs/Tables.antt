@@ -30,3 +30,10 @@ written-more g i v d l e =
 -- all values, in the words of the contracts
 pub written-over : (n : ℕ) (g : ℕ → ℕ) (d : List ℕ) → table n g ++ drop n d ≡ over (table n g) d
 written-over n g d = rw (length-table n g)
+
+-- functions that agree below n have one table
+pub table-same : (n : ℕ) (g g′ : ℕ → ℕ) → ((p : ℕ) → p < n → g p ≡ g′ p) → table n g ≡ table n g′
+unfolding table
+table-same zero g g′ e = refl
+table-same (suc n) g g′ e =
+    table-suc g n ∙ rw (table-same n g g′ (λ p l. e p (omega arith)), e n (omega arith)) (sym (table-suc g′ n))

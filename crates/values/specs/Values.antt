@@ -1,13 +1,14 @@
 -- Values by node in the column VALUE, and what is written out of the work space. n: the pixels; count: the nodes.
 use mathlib.Core.Path.{_≡_}
 use mathlib.Core.Bool.{Bool, not, _&&_}
-use mathlib.Core.List.{List}
-use Prim.Native.Nat.{ℕ, _≤_, _<_}
+use mathlib.Core.List.{List, _++_}
+use Prim.Native.Nat.{ℕ, _*_, _≤_, _<_}
 use lib.Dec.{leb, ltb, eqb}
-use lib.ListN.{length}
+use lib.ListN.{length, drop, replicate}
+use Rattle.meaning.specs.Answers.{over}
 use Rattle.meaning.specs.Nodes.{parent}
 use Rattle.meaning.specs.Plate.{greatestGrey}
-use Rattle.meaning.specs.Sets.{bit, pick, some}
+use Rattle.meaning.specs.Sets.{bit, pick, some, table}
 use Rattle.columns.specs.Columns.{Frame, Room, col}
 use Rattle.columns.specs.Layout.{AREA, LEVEL, OWN, PARENT, VALUE}
 use Rattle.plate.specs.View.{viewed}
@@ -60,6 +61,11 @@ pub record Writable (n : ℕ) (w : List ℕ) : Type 0 where
 -- what is written at p
 abbrev pub outValue : Bool → ℕ → List ℕ → ℕ → ℕ
 outValue negated n w p = viewed negated (col VALUE n w (col OWN n w p))
+
+-- all values are written, and the columns are cleared
+pub record Delivered (negated : Bool) (n : ℕ) (w w′ out out′ : List ℕ) : Type 0 where
+  pub written : out′ ≡ over (table n (outValue negated n w)) out
+  pub cleared : w′ ≡ replicate (8 * n) 0 ++ drop (8 * n) w
 
 -- there is a column, and room for its entries
 pub record Copyable (n : ℕ) (w : List ℕ) (c count : ℕ) (out : List ℕ) : Type 0 where

@@ -6,7 +6,7 @@ ghost use Rattle.meaning.specs.Sets.{table};
 ghost use Rattle.meaning.specs.Answers.{over};
 ghost use Rattle.columns.specs.Columns.{col, Room};
 ghost use Rattle.columns.specs.Layout.{PARENT};
-ghost use Rattle.values.specs.Values.{Parents, Cut, cutValue, Ones, Marked, Writable, outValue, Copyable};
+ghost use Rattle.values.specs.Values.{Parents, Cut, cutValue, Ones, Marked, Writable, outValue, Delivered, Copyable};
 
 const OWN: usize = 1;
 
@@ -93,6 +93,16 @@ pub fn write_values(w: &[u32], n: usize, negated: bool, out: &mut [u8])
         out[p] = out_value(w, n, negated, p);
         p += 1;
     }
+}
+
+// Writes the values as `write_values` does, and sets the work space to zero.
+pub fn deliver(w: &mut [u32], n: usize, negated: bool, out: &mut [u8])
+    requires { ⌜ Writable n (now w) ⌝ }
+    requires { ⌜ n ≤ length (now out) ⌝ }
+    ensures { λ _. ⌜ Delivered negated n (now (w .entry)) (now (w .exit)) (now (out .entry)) (now (out .exit)) ⌝ }
+{
+    write_values(w, n, negated, out);
+    columns::clear(w, n);
 }
 
 // Writes the first `count` entries of column c.

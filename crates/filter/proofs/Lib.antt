@@ -1,0 +1,2 @@
+-- From the columns of the work space to the definitions.
+pub mod Results
