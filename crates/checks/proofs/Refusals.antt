@@ -8,7 +8,7 @@ use borrow.Author.Tests.{eqb-true, eq-eqb, not-false, ltb-false, le-ltb}
 use Rattle.meaning.specs.Answers.{cleanRefusal, limitRefusal, maximaRefusal, outRefusal, plateRefusal, refuse, treeRefusal, workRefusal}
 use Rattle.meaning.specs.Plate.{connectivityFits, gridFits, maxPixels}
 use Rattle.connectivity.proofs.Tests.{tests}
-use Rattle.checks.proofs.Sizes.{sizes, true-T}
+use Rattle.checks.proofs.Sizes.{grid-sizes, true-T}
 
 -- a condition that is not met, with none of the later ones
 pub refuse-none : (met : Bool) (number later : ℕ) → 0 < number → refuse met number later ≡ 0 → (met ≡ false) × (later ≡ 0)
@@ -68,7 +68,7 @@ module _ (k w h plate : ℕ) where
 
 -- a plate that is taken has few pixels
 pub taken-few : {k w h plate : ℕ} → Taken k w h plate → plate ≤ maxPixels
-taken-few {k} {w} {h} t = omega (arith, t .long, sizes w h (t .grid) .few-pixels)
+taken-few {k} {w} {h} t = omega (arith, t .long, grid-sizes w h (t .grid) .few-pixels)
 
 -- ---- opening and closing
 
@@ -159,3 +159,14 @@ module _ (k w h plate work : ℕ) where
       go true true false d e = refl
       go true true true true e = refl
       go true true true false e = absurd (e refl)
+
+  -- 5 is none of these
+  pub tree-early : plateRefusal k w h plate (workRefusal w h work 0) ≡ 5 → ⊥
+  tree-early e = go (connectivityFits k) (gridFits w h) (eqb plate (w * h)) (ltb work (8 * (w * h))) e
+    where
+      go : (a b c d : Bool) → refuse (not a) 1 (refuse (not b) 2 (refuse (not c) 3 (refuse d 6 0))) ≡ 5 → ⊥
+      go false b c d e = omega arith
+      go true false c d e = omega arith
+      go true true false d e = omega arith
+      go true true true true e = omega arith
+      go true true true false e = omega arith

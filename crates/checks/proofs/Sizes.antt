@@ -29,9 +29,9 @@ pub record Sizes (w h : ℕ) : Type 0 where
   pub some-pixels : 1 ≤ w * h
   pub few-pixels : w * h ≤ maxPixels
 
-pub sizes : (w h : ℕ) → gridFits w h ≡ true → Sizes w h
+pub grid-sizes : (w h : ℕ) → gridFits w h ≡ true → Sizes w h
 unfolding gridFits
-sizes w h e =
+grid-sizes w h e =
     let t : T (gridFits w h) = true-T (gridFits w h) e in
     let a : Side w = record { least = leb→le 1 w (search tests); most = leb→le w maxSide (search tests) } in
     let b : Side h = record { least = leb→le 1 h (search tests); most = leb→le h maxSide (search tests) } in

@@ -72,7 +72,15 @@ fn clean(
         (now (out .entry)) (now (out .exit)) (now (work .entry)) (now (work .exit)) r ⌝ }
 {
     let n = image.len();
-    let refusal = checks::clean_refusal(connectivity, width, height, limit, n, out.len(), work.len());
+    let refusal = checks::clean_refusal(
+        connectivity,
+        width,
+        height,
+        limit,
+        n,
+        out.len(),
+        work.len(),
+    );
     if refusal != 0 {
         return refusal;
     }
@@ -207,15 +215,24 @@ pub fn node_list(
     let n = image.len();
     let refusal = checks::tree_refusal(connectivity, width, height, n, work.len());
     if refusal != 0 {
-        return NodeList { refusal: refusal, count: 0 };
+        return NodeList {
+            refusal: refusal,
+            count: 0,
+        };
     }
     let count = plate_tree(image, false, width, height, connectivity, work);
     let places = shortest(levels.len(), parents.len(), areas.len(), anchors.len());
     if places < count {
         columns::clear(work, n);
-        return NodeList { refusal: 5, count: 0 };
+        return NodeList {
+            refusal: 5,
+            count: 0,
+        };
     }
     write_nodes(work, n, count, levels, parents, areas, anchors);
     columns::clear(work, n);
-    NodeList { refusal: 0, count: count as u32 }
+    NodeList {
+        refusal: 0,
+        count: count as u32,
+    }
 }

@@ -8,7 +8,7 @@ use borrow.Author.Tests.{eq-eqb, ne-eqb, not-true, not-false}
 use Rattle.checks.proofs.plate_refusal.Statement.{statement}
 use Rattle.checks.proofs.plate_refusal.Tie as tie
 use Rattle.meaning.specs.Plate.{connectivityFits, gridFits}
-use Rattle.checks.proofs.Sizes.{sizes}
+use Rattle.checks.proofs.Sizes.{grid-sizes}
 
 connectivity-fits-requires : tie.Need-connectivity-fits-requires
 connectivity-fits-requires c κs = search needs
@@ -34,10 +34,10 @@ grid : (c : tie.Else2) → let s = c .before .before .before .before .args in gr
 grid c = sym (c .before .grid-fits .ensures) ∙ not-false (c .before .grid-fits .result) (c .if2 .left)
 
 mul-if3 : tie.Need-mul-if3
-mul-if3 c = let s = c .before .before .before .before .args in omega (arith, sizes (s .width) (s .height) (grid c) .few-pixels)
+mul-if3 c = let s = c .before .before .before .before .args in omega (arith, grid-sizes (s .width) (s .height) (grid c) .few-pixels)
 
 cast-if3 : tie.Need-cast-if3
-cast-if3 c = let s = c .before .before .before .before .args in omega (arith, sizes (s .width) (s .height) (grid c) .few-pixels)
+cast-if3 c = let s = c .before .before .before .before .args in omega (arith, grid-sizes (s .width) (s .height) (grid c) .few-pixels)
 
 returns-3 : tie.Need-returns-3
 returns-3 c =
