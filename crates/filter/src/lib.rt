@@ -5,8 +5,6 @@ ghost use lib.ListN.{length};
 ghost use Rattle.meaning.specs.Answers.{cleanRefusal, maximaRefusal};
 ghost use Rattle.meaning.specs.Opening.{opened, closed};
 ghost use Rattle.meaning.specs.Maxima.{marks};
-ghost use Rattle.columns.specs.Layout.{Buildable, Built};
-ghost use Rattle.plate.specs.Tree.{Ready, Planted};
 ghost use Rattle.filter.specs.Operations.{Answered, cleaned, NodesListed, columns, shortest, Lent, Written};
 
 const ANCHOR: usize = 2;
@@ -16,43 +14,6 @@ const LEVEL: usize = 3;
 const PARENT: usize = 5;
 
 const AREA: usize = 7;
-
-// STAND-IN for maxtree
-pub fn build_tree(
-    w: &mut [u32],
-    n: usize,
-    width: usize,
-    height: usize,
-    connectivity: usize,
-) -> usize
-    requires { ⌜ Buildable connectivity width height n (now w) ⌝ }
-    ensures { λ r. ⌜ Built connectivity width n (now (w .entry)) (now (w .exit)) r ⌝ }
-{
-    0
-}
-
-// Builds the component tree of a plate, or of its negative, in the work space. Returns the number of nodes.
-pub fn plate_tree(
-    image: &[u8],
-    negated: bool,
-    width: u32,
-    height: u32,
-    connectivity: u32,
-    work: &mut [u32],
-) -> usize
-    requires { ⌜ Ready connectivity width height (now image) (now work) ⌝ }
-    ensures { λ r. ⌜ Planted negated connectivity width (now (image .entry)) (now (work .entry)) (now (work .exit)) r ⌝ }
-{
-    plate::load(image, negated, work);
-    let n = image.len();
-    build_tree(
-        work,
-        n,
-        width as usize,
-        height as usize,
-        connectivity as usize,
-    )
-}
 
 // Opens a plate, or closes it: opens its negative.
 fn clean(
@@ -84,7 +45,7 @@ fn clean(
     if refusal != 0 {
         return refusal;
     }
-    let count = plate_tree(image, negated, width, height, connectivity, work);
+    let count = platetree::plate_tree(image, negated, width, height, connectivity, work);
     values::cut_values(work, n, count, limit as usize);
     values::deliver(work, n, negated, out);
     0
@@ -148,7 +109,7 @@ pub fn regional_maxima(
     if refusal != 0 {
         return refusal;
     }
-    let count = plate_tree(image, false, width, height, connectivity, work);
+    let count = platetree::plate_tree(image, false, width, height, connectivity, work);
     values::mark_leaves(work, n, count);
     values::deliver(work, n, false, out);
     0
@@ -158,6 +119,16 @@ pub fn regional_maxima(
 pub struct NodeList {
     pub refusal: u32,
     pub count: u32,
+}
+
+// A refusal gives its number, and zeros elsewhere.
+fn refused(refusal: u32) -> NodeList
+    ensures { λ r. ⌜ (r .refusal ≡ refusal) × (r .count ≡ 0) ⌝ }
+{
+    NodeList {
+        refusal: refusal,
+        count: 0,
+    }
 }
 
 // The lesser of two numbers.
@@ -215,19 +186,13 @@ pub fn node_list(
     let n = image.len();
     let refusal = checks::tree_refusal(connectivity, width, height, n, work.len());
     if refusal != 0 {
-        return NodeList {
-            refusal: refusal,
-            count: 0,
-        };
+        return refused(refusal);
     }
-    let count = plate_tree(image, false, width, height, connectivity, work);
+    let count = platetree::plate_tree(image, false, width, height, connectivity, work);
     let places = shortest(levels.len(), parents.len(), areas.len(), anchors.len());
     if places < count {
         columns::clear(work, n);
-        return NodeList {
-            refusal: 5,
-            count: 0,
-        };
+        return refused(5);
     }
     write_nodes(work, n, count, levels, parents, areas, anchors);
     columns::clear(work, n);

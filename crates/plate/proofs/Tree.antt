@@ -6,7 +6,6 @@ use Prim.Native.Nat.{ℕ, _*_, _≤_, _<_}
 use native.Mathlib.Nat.{le-trans, mul-comm}
 use native.Mathlib.Omega.{arith}
 use lib.ListN.{length}
-use Rattle.meaning.specs.Examples.{small}
 use Rattle.meaning.specs.Nodes.{anchors}
 use Rattle.meaning.specs.Paths.{Grid}
 use Rattle.meaning.specs.Plate.{greatestGrey, gridFits, touch}

@@ -3,7 +3,6 @@ use borrow.Author.Needs.{needs}
 use Rattle.filter.proofs.area_close.Statement.{statement}
 use Rattle.filter.proofs.area_close.Tie as tie
 use Rattle.meaning.specs.Opening.{closed}
-use Rattle.columns.proofs.Columns.{before}
 
 clean-requires : tie.Need-clean-requires
 clean-requires c κs = search needs

@@ -7,7 +7,6 @@ use lib.ListN.{length}
 use Rattle.filter.proofs.node_list.Statement.{statement}
 use Rattle.filter.proofs.node_list.Tie as tie
 use Rattle.meaning.specs.Nodes.{anchors}
-use Rattle.columns.proofs.Columns.{before}
 use Rattle.checks.proofs.Refusals.{plate-later, tree-none}
 use Rattle.filter.specs.Operations.{Columns, columns, shortest}
 use Rattle.filter.proofs.NodeLists.{listed-done, listed-refused, listed-short}
@@ -19,11 +18,15 @@ tree-refusal-requires c κs = search needs
 abbrev lent : tie.Start → Columns
 lent c = let s = c .args in columns (now (s .levels)) (now (s .parents)) (now (s .areas)) (now (s .anchors))
 
+refused-requires : tie.Need-refused-requires
+refused-requires c κs = search needs
+
 returns : tie.Need-returns
 returns c =
-    let b = c .before .before .before .before .before .before .before .before in
+    let b = c .before .before .before .before .before .before .before .before .before in
     let s = b .args in
-    listed-refused (s .connectivity) (s .width) (s .height) (lent b) (c .before .tree-refusal .ensures) (c .if1 .taken)
+    rw (c .refused .ensures .0, c .refused .ensures .1)
+    (listed-refused (s .connectivity) (s .width) (s .height) (lent b) (c .before .before .tree-refusal .ensures) (c .before .if1 .taken))
 
 plate-tree-requires : tie.Need-plate-tree-requires
 plate-tree-requires c κs =
@@ -37,18 +40,22 @@ shortest-requires c κs = search needs
 clear-requires : tie.Need-clear-requires
 clear-requires c κs = search needs
 
+refused-requires-2 : tie.Need-refused-requires-2
+refused-requires-2 c κs = search needs
+
 same-length : tie.Need-same-length
 same-length c = search needs
 
 returns-2 : tie.Need-returns-2
 returns-2 c =
-    let t = c .before .before .before .before in
+    let t = c .before .before .before .before .before in
     let p = t .before .before .before .before in
     let e = p .before .before in
     let b = e .before .before .before .before .before .before .before .before in
     let s = b .args in
-    listed-short (s .connectivity) (s .width) (s .height) (lent b) (e .before .tree-refusal .ensures) (e .if1 .left) (p .plate-tree .ensures)
-    (omega (arith, t .if2 .taken, t .before .shortest .ensures)) (c .before .before .clear .ensures)
+    rw (c .refused2 .ensures .0, c .refused2 .ensures .1)
+    (listed-short (s .connectivity) (s .width) (s .height) (lent b) (e .before .tree-refusal .ensures) (e .if1 .left) (p .plate-tree .ensures)
+    (omega (arith, t .if2 .taken, t .before .shortest .ensures)) (c .before .before .before .clear .ensures))
 
 write-nodes-requires : tie.Need-write-nodes-requires
 write-nodes-requires c κs = search needs
@@ -90,10 +97,12 @@ node-list-spec =
     tie.close
     (tie.spec
     tree-refusal-requires
+    refused-requires
     returns
     plate-tree-requires
     shortest-requires
     clear-requires
+    refused-requires-2
     same-length
     returns-2
     write-nodes-requires

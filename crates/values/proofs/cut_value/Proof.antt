@@ -5,7 +5,6 @@ use borrow.Author.Needs.{needs}
 use denote.Ref.{now}
 use Rattle.values.proofs.cut_value.Statement.{statement}
 use Rattle.values.proofs.cut_value.Tie as tie
-use Rattle.columns.proofs.Columns.{before}
 use Rattle.values.proofs.Values.{cut-value-no, cut-value-yes}
 
 get-requires : tie.Need-get-requires

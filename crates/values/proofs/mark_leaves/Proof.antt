@@ -4,7 +4,6 @@ use native.Mathlib.Omega.{arith}
 use borrow.Author.Needs.{needs}
 use Rattle.values.proofs.mark_leaves.Statement.{statement}
 use Rattle.values.proofs.mark_leaves.Tie as tie
-use Rattle.columns.proofs.Columns.{before}
 use Rattle.values.specs.Values.{Parents}
 use Rattle.values.proofs.Values.{Marking, marking-done, marking-first, marking-more, valued-parents, valued-store}
 

@@ -4,7 +4,6 @@ use native.Mathlib.Omega.{arith}
 use borrow.Author.Needs.{needs}
 use Rattle.values.proofs.out_value.Statement.{statement}
 use Rattle.values.proofs.out_value.Tie as tie
-use Rattle.columns.proofs.Columns.{before}
 use Rattle.plate.specs.View.{view}
 
 get-requires : tie.Need-get-requires

@@ -10,7 +10,6 @@ use Rattle.values.proofs.write_column.Statement.{statement}
 use Rattle.values.proofs.write_column.Tie as tie
 use Rattle.meaning.specs.Sets.{span, table}
 use Rattle.columns.specs.Columns.{col}
-use Rattle.columns.proofs.Columns.{before}
 use Rattle.values.proofs.Tables.{written-more, written-over}
 
 abbrev Inv-loop : tie.InvT-loop

@@ -9,7 +9,6 @@ use lib.ListN.{length, drop, length-set}
 use Rattle.values.proofs.write_values.Statement.{statement}
 use Rattle.values.proofs.write_values.Tie as tie
 use Rattle.meaning.specs.Sets.{span, table}
-use Rattle.columns.proofs.Columns.{before}
 use Rattle.values.specs.Values.{outValue}
 use Rattle.values.proofs.Tables.{written-more, written-over}
 

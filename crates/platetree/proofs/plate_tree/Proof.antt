@@ -1,8 +1,7 @@
--- `filter::plate_tree` meets its contract.
+-- `platetree::plate_tree` meets its contract.
 use borrow.Author.Needs.{needs}
-use Rattle.filter.proofs.plate_tree.Statement.{statement}
-use Rattle.filter.proofs.plate_tree.Tie as tie
-use Rattle.columns.proofs.Columns.{before}
+use Rattle.platetree.proofs.plate_tree.Statement.{statement}
+use Rattle.platetree.proofs.plate_tree.Tie as tie
 use Rattle.plate.proofs.Tree.{planted, ready-buildable, ready-room}
 
 load-requires : tie.Need-load-requires
