@@ -7,5 +7,6 @@ pub mod Nodes
 pub mod Rises
 pub mod Losses
 pub mod Children
+pub mod Cuts
 pub mod Leaves
 pub mod NodeSets

@@ -1,0 +1,3 @@
+-- What the conditions on a plate's sizes say.
+pub mod Sizes
+pub mod Refusals

@@ -1,0 +1,17 @@
+-- `checks::connectivity_fits` meets its contract.
+use lib.Dec.{eqb}
+use borrow.Author.Tests.{eq-eqb, ne-eqb}
+use Rattle.checks.proofs.connectivity_fits.Statement.{statement}
+use Rattle.checks.proofs.connectivity_fits.Tie as tie
+use Rattle.meaning.specs.Plate.{connectivityFits}
+
+returns : tie.Need-returns
+unfolding connectivityFits
+returns c = rw (eq-eqb (c .before .args .connectivity) 4 (c .if1 .taken))
+
+returns-2 : tie.Need-returns-2
+unfolding connectivityFits
+returns-2 c = rw (ne-eqb (c .before .args .connectivity) 4 (c .if1 .left))
+
+pub connectivity-fits-spec : {M : Type 1} → statement M
+connectivity-fits-spec = tie.close (tie.spec returns returns-2)

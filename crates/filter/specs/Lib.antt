@@ -1,0 +1,2 @@
+-- What the operations of this crate answer.
+pub mod Operations

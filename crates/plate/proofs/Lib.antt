@@ -1,0 +1,3 @@
+-- Laws of a plate in the work space.
+pub mod Views
+pub mod Tree

@@ -1,0 +1,3 @@
+-- A plate, or its negative, in the work space.
+pub mod View
+pub mod Tree

@@ -1,0 +1,14 @@
+-- A plate seen as it is, or as its negative: opening works on the one, closing on the other.
+use mathlib.Core.Bool.{Bool}
+use mathlib.Core.List.{List}
+use Prim.Native.Nat.{ℕ, _-_}
+use Rattle.meaning.specs.Plate.{greatestGrey, negative}
+use Rattle.meaning.specs.Sets.{pick}
+
+-- a grey, or its negative
+abbrev pub viewed : Bool → ℕ → ℕ
+viewed negated g = pick negated (greatestGrey - g) g
+
+-- a plate, or its negative
+abbrev pub view : Bool → List ℕ → List ℕ
+view negated f = pick negated (negative f) f

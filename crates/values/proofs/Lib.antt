@@ -1,0 +1,3 @@
+-- Laws of values by node, and of lists that are written from the front.
+pub mod Tables
+pub mod Values

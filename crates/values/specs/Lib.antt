@@ -1,0 +1,2 @@
+-- Values by node.
+pub mod Values
