@@ -1,0 +1,2 @@
+-- Fields in the columns of the work space.
+pub mod Fields

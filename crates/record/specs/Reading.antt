@@ -1,0 +1,99 @@
+-- Reading a record, cutting it, its size list. Each starts from what reading finds up to 24 (`readOf` of the crate `parse`).
+use mathlib.Core.Bool.{Bool, true, false, _||_}
+use mathlib.Core.Path.{_≡_}
+use mathlib.Core.List.{List}
+use Prim.Native.Nat.{ℕ, _-_, _*_}
+use lib.Dec.{eqb, ltb}
+use lib.ListN.{length}
+use Rattle.meaning.specs.Sets.{pick}
+use Rattle.meaning.specs.Nodes.{nodesOf}
+use Rattle.meaning.specs.Cut.{cut, counts, losses, darkest}
+use Rattle.meaning.specs.Answers.{refuse, limitRefusal, outRefusal, outAfter, workAfter}
+use Rattle.parse.specs.Parse.{Parsed, early, late, plate}
+use Rattle.record.specs.declared.Head.{Head}
+use Rattle.record.specs.declared.SizeHead.{SizeHead}
+
+-- ---- for all three: the refusal up to 24, then the operation's own conditions on the plate
+
+abbrev pub refusalOf : Parsed → (ℕ → ℕ → ℕ) → ℕ
+refusalOf (early number) own = number
+refusalOf (late number pixels) own = number
+refusalOf (plate k w h f) own = own w h
+
+-- the work space: untouched by 6 and ahead of it, else zeroed
+abbrev pub parsedWork : Parsed → List ℕ → List ℕ
+parsedWork (early number) work = work
+parsedWork (late number pixels) work = workAfter true pixels work
+parsedWork (plate k w h f) work = workAfter true (w * h) work
+
+-- the sizes and the connectivity of the plate; zeros on a refusal
+abbrev pub headOf : ℕ → Parsed → Head
+headOf refusal (early number) = record { refusal = refusal; width = 0; height = 0; connectivity = 0 }
+headOf refusal (late number pixels) = record { refusal = refusal; width = 0; height = 0; connectivity = 0 }
+headOf refusal (plate k w h f) =
+    record { refusal = refusal; width = pick (eqb refusal 0) w 0; height = pick (eqb refusal 0) h 0; connectivity = pick (eqb refusal 0) k 0 }
+
+-- an output: what the plate's operation answers, where nothing is refused
+abbrev pub parsedOut : ℕ → Parsed → (ℕ → ℕ → List ℕ → List ℕ) → List ℕ → List ℕ
+parsedOut refusal (early number) answer out = out
+parsedOut refusal (late number pixels) answer out = out
+parsedOut refusal (plate k w h f) answer out = outAfter refusal (answer k w f) out
+
+-- ---- reading: 5
+
+abbrev pub readRefusal : Parsed → ℕ → ℕ
+readRefusal p out = refusalOf p λ w h. outRefusal (w * h) out 0
+
+abbrev pub readOut : Parsed → List ℕ → List ℕ
+readOut p out = parsedOut (readRefusal p (length out)) p (λ k w f. f) out
+
+-- ---- cutting: 4, 5
+
+abbrev pub cutRefusal : Parsed → ℕ → ℕ → ℕ
+cutRefusal p limit out = refusalOf p λ w h. limitRefusal w h limit (outRefusal (w * h) out 0)
+
+abbrev pub cutOut : Parsed → ℕ → List ℕ → List ℕ
+cutOut p limit out = parsedOut (cutRefusal p limit (length out)) p (λ k w f. cut k w limit f) out
+
+-- ---- size list: 5 when either table has fewer than pixels - 1 places
+
+abbrev pub sizeRefusal : Parsed → ℕ → ℕ → ℕ
+sizeRefusal p countPlaces lossPlaces = refusalOf p λ w h. refuse (ltb countPlaces (w * h - 1) || ltb lossPlaces (w * h - 1)) 5 0
+
+abbrev pub sizeHeadOf : ℕ → Parsed → SizeHead
+sizeHeadOf refusal (early number) = record { refusal = refusal; width = 0; height = 0; connectivity = 0; nodes = 0; darkest = 0 }
+sizeHeadOf refusal (late number pixels) = record { refusal = refusal; width = 0; height = 0; connectivity = 0; nodes = 0; darkest = 0 }
+sizeHeadOf refusal (plate k w h f) =
+    let met = eqb refusal 0 in
+    record {
+      refusal = refusal;
+      width = pick met w 0;
+      height = pick met h 0;
+      connectivity = pick met k 0;
+      nodes = pick met (length (nodesOf k w f)) 0;
+      darkest = pick met (darkest f) 0;
+    }
+
+abbrev pub countsOut : Parsed → ℕ → List ℕ → List ℕ
+countsOut p lossPlaces out = parsedOut (sizeRefusal p (length out) lossPlaces) p counts out
+
+abbrev pub lossesOut : Parsed → ℕ → List ℕ → List ℕ
+lossesOut p countPlaces out = parsedOut (sizeRefusal p countPlaces (length out)) p losses out
+
+-- ---- the contracts: the answer, the outputs and the work space. p: what reading finds up to 24
+
+pub record ReadRecord (p : Parsed) (out out′ work work′ : List ℕ) (r : Head) : Type 0 where
+  pub answer : r ≡ headOf (readRefusal p (length out)) p
+  pub output : out′ ≡ readOut p out
+  pub space : work′ ≡ parsedWork p work
+
+pub record CutRecord (p : Parsed) (limit : ℕ) (out out′ work work′ : List ℕ) (r : Head) : Type 0 where
+  pub answer : r ≡ headOf (cutRefusal p limit (length out)) p
+  pub output : out′ ≡ cutOut p limit out
+  pub space : work′ ≡ parsedWork p work
+
+pub record ListedSizes (p : Parsed) (counted counted′ lost lost′ work work′ : List ℕ) (r : SizeHead) : Type 0 where
+  pub answer : r ≡ sizeHeadOf (sizeRefusal p (length counted) (length lost)) p
+  pub count-table : counted′ ≡ countsOut p (length lost) counted
+  pub loss-table : lost′ ≡ lossesOut p (length counted) lost
+  pub space : work′ ≡ parsedWork p work

@@ -1,0 +1,2 @@
+-- One record for each plate and connectivity, and the reader accepts exactly those.
+pub mod There
