@@ -30,7 +30,7 @@ use Rattle.demands.specs.Demand3.{CutClaim, Demand3, SizeClaim, cutHead,
 over-take : (xs out : List ℕ) (n : ℕ) → length xs ≡ n → take n (over xs out) ≡ xs
 over-take xs out n e = take-at xs (drop (length xs) out) n e
 
-over-nth : (xs out : List ℕ) (i : ℕ) → i < length xs → nth (over xs out) i ≡ nth xs i
+pub over-nth : (xs out : List ℕ) (i : ℕ) → i < length xs → nth (over xs out) i ≡ nth xs i
 over-nth xs out i l = List·getD-append xs (drop (length xs) out) 0 i l
 
 module _ {k w h : ℕ} {f : List ℕ} (pl : Plate k w h f) where

@@ -1,2 +1,3 @@
--- Demand 3.
+-- Demands 2 and 3.
 pub mod Demand3
+pub mod Demand2

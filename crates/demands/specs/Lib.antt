@@ -1,2 +1,3 @@
--- Demand 3 as one statement.
+-- Demands 2 and 3 as statements.
+pub mod Demand2
 pub mod Demand3
