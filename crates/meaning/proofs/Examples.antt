@@ -1,12 +1,20 @@
--- 01's examples, computed from the definitions.
+-- 01's examples and the slips that it names, computed from the definitions.
 use mathlib.Core.Path.{_≡_, refl}
-use mathlib.Core.List.{List, [], _∷_, _++_, map}
-use Prim.Native.Nat.{ℕ}
+use mathlib.Core.Bool.{Bool, true, false}
+use mathlib.Core.List.{List, [], _∷_, map}
+use Prim.Native.Nat.{ℕ, zero, suc, _-_, _*_}
+use native.Mathlib.Omega.{arith}
+use lib.Dec.{ltb, leb}
+use Rattle.meaning.specs.Sets.{area, table}
+use Rattle.meaning.specs.Plate.{greatestGrey, apart}
+use Rattle.meaning.specs.Opening.{opened, closed, atLeast, attribute}
 use Rattle.meaning.specs.Maxima.{marks}
 use Rattle.meaning.specs.Nodes.{nodesOf}
 use Rattle.meaning.specs.Cut.{cut, counts, losses, total, darkest}
-use Rattle.meaning.specs.Record.{recordOf}
-use Rattle.meaning.specs.Examples.{small, run, marked, Case}
+use Rattle.meaning.specs.Record.{recordOf, encode}
+use Rattle.meaning.specs.Ink.{inkOf}
+use Rattle.meaning.specs.Answers.{cleanRefusal, maximaRefusal, treeRefusal}
+use Rattle.meaning.specs.Examples.{small, run, marked, Case, edges, steps, places}
 
 -- every case that 01 marks
 pub marked-hold : map (λ (c : Case). run (c .job)) marked ≡ map (λ (c : Case). c .answer) marked
@@ -18,3 +26,74 @@ pub record-27 : recordOf 4 4 3 small
     ≡ 4 ∷ 3 ∷ 4 ∷ 4 ∷ 10 ∷ 12 ∷ 1 ∷ 20 ∷ 2 ∷ 1 ∷ 20 ∷ 1 ∷ 3 ∷ 80 ∷ 1 ∷ 0 ∷ 0 ∷ 0 ∷ 0 ∷ 0 ∷ 2 ∷ 1 ∷ 0 ∷ 0 ∷ 0 ∷ 0 ∷ 3 ∷ []
 unfolding recordOf
 record-27 = refl
+
+-- a number of several groups
+pub groups-300 : encode (300 ∷ 127 ∷ 128 ∷ 4294967295 ∷ []) ≡ 172 ∷ 2 ∷ 127 ∷ 128 ∷ 1 ∷ 255 ∷ 255 ∷ 255 ∷ 255 ∷ 15 ∷ []
+unfolding encode
+groups-300 = refl
+
+-- its size list is what sizelist prints: 2 nodes of area 1 lose 100, 1 node of area 2 loses 40; the darkest grey is 10
+pub small-counts : counts 4 4 small ≡ 2 ∷ 1 ∷ 0 ∷ 0 ∷ 0 ∷ 0 ∷ 0 ∷ 0 ∷ 0 ∷ 0 ∷ 0 ∷ []
+unfolding counts
+small-counts = refl
+
+pub small-losses : losses 4 4 small ≡ 100 ∷ 40 ∷ 0 ∷ 0 ∷ 0 ∷ 0 ∷ 0 ∷ 0 ∷ 0 ∷ 0 ∷ 0 ∷ []
+unfolding losses
+small-losses = refl
+
+pub small-figures : total small ∷ darkest small ∷ [] ≡ 260 ∷ 10 ∷ []
+unfolding total darkest
+small-figures = refl
+
+pub small-marks : marks 4 4 small ≡ 0 ∷ 0 ∷ 0 ∷ 0 ∷ 0 ∷ 1 ∷ 0 ∷ 0 ∷ 0 ∷ 0 ∷ 0 ∷ 1 ∷ []
+unfolding marks
+small-marks = refl
+
+pub small-cut : cut 4 4 2 small ≡ 10 ∷ 10 ∷ 10 ∷ 10 ∷ 10 ∷ 30 ∷ 30 ∷ 10 ∷ 10 ∷ 10 ∷ 10 ∷ 10 ∷ []
+unfolding cut
+small-cut = refl
+
+-- ---- the slips
+
+-- nothing wraps round an edge, with 4 or 8
+pub no-wrap : opened 4 3 2 edges ∷ opened 8 3 2 edges ∷ [] ≡ (0 ∷ 0 ∷ 0 ∷ 0 ∷ 0 ∷ 0 ∷ []) ∷ (0 ∷ 0 ∷ 0 ∷ 0 ∷ 0 ∷ 0 ∷ []) ∷ []
+unfolding opened
+no-wrap = refl
+
+-- a maximum sinks as far as it must
+pub sinks-on : opened 4 5 3 steps ∷ opened 4 5 4 steps ∷ [] ≡ (10 ∷ 30 ∷ 30 ∷ 30 ∷ 10 ∷ []) ∷ (10 ∷ 10 ∷ 10 ∷ 10 ∷ 10 ∷ []) ∷ []
+unfolding opened
+sinks-on = refl
+
+-- parts of one grey in several places are several nodes
+pub apart-nodes : nodesOf 4 5 places ≡ 1 ∷ 0 ∷ 2 ∷ 4 ∷ []
+unfolding nodesOf
+apart-nodes = refl
+
+whole : (n : ℕ) → area n (λ (q : ℕ). true) ≡ n
+unfolding area
+whole zero = refl
+whole (suc n) = omega (arith, whole n)
+
+-- a patch of 65,536 pixels qualifies at the limit 65,536
+pub large-patch : atLeast (attribute 65536) 65536 (λ (q : ℕ). true) ≡ true
+large-patch = rw (whole 65536)
+
+-- ---- ink and refusals
+
+-- the ink percentage is the nearest whole number, for each of the 256 greys
+pub ink-nearest : table 256 (λ (g : ℕ). ltb (2 * apart (greatestGrey * inkOf g) ((greatestGrey - g) * 100)) greatestGrey) ≡ table 256 (λ (g : ℕ). true)
+unfolding table inkOf
+ink-nearest = refl
+
+pub ink-rest : inkOf 10 ∷ inkOf 7 ∷ [] ≡ 96 ∷ 97 ∷ []
+unfolding inkOf
+ink-rest = refl
+
+-- limits 0 and 13 give 4; each other condition of cleaning, with all later ones met too; nothing refused
+pub refusals : cleanRefusal 4 4 3 0 12 12 96 ∷ cleanRefusal 4 4 3 13 12 12 96 ∷ cleanRefusal 5 0 3 0 11 0 0 ∷ cleanRefusal 8 0 3 0 11 0 0 ∷ cleanRefusal 8 4 3 0 11 0 0
+    ∷ cleanRefusal 8 4 3 12 12 11 95 ∷ cleanRefusal 8 4 3 12 12 12 95 ∷ cleanRefusal 8 4 3 12 12 12 96 ∷ maximaRefusal 4 4 3 12 11 0 ∷ treeRefusal 4 4 3 12 4 3 95
+    ∷ treeRefusal 4 4 3 12 4 3 96 ∷ []
+    ≡ 4 ∷ 4 ∷ 1 ∷ 2 ∷ 3 ∷ 5 ∷ 6 ∷ 0 ∷ 5 ∷ 6 ∷ 5 ∷ []
+unfolding cleanRefusal maximaRefusal treeRefusal
+refusals = refl

@@ -55,3 +55,17 @@ marked =
     ∷ case (ink 0) (100 ∷ [])
     ∷ case (ink 255) (0 ∷ [])
     ∷ []
+
+-- ---- plates for the slips that 01 names
+
+-- two light pixels that are next to each other in the list, at the right edge of a row and at the left edge of the next: rows 0 0 9 / 9 0 0
+abbrev pub edges : List ℕ
+edges = 0 ∷ 0 ∷ 9 ∷ 9 ∷ 0 ∷ 0 ∷ []
+
+-- a peak on a step: one row 10 30 50 30 10. The peak sinks to 30, where three pixels are still fewer than four
+abbrev pub steps : List ℕ
+steps = 10 ∷ 30 ∷ 50 ∷ 30 ∷ 10 ∷ []
+
+-- one grey in three places: one row 5 0 5 0 5
+abbrev pub places : List ℕ
+places = 5 ∷ 0 ∷ 5 ∷ 0 ∷ 5 ∷ []

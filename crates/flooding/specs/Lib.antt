@@ -1,0 +1,3 @@
+-- Flooding: the invariant of the machine, and what its functions ask and leave.
+pub mod Machine
+pub mod Contracts

@@ -1,0 +1,2 @@
+-- Laws of directions.
+pub mod Neighbours

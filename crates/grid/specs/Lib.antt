@@ -1,0 +1,2 @@
+-- Directions on the grid.
+pub mod Directions

@@ -1,0 +1,1 @@
+// Directions: the laws stand in proofs/; this crate has no functions.

@@ -1,0 +1,9 @@
+-- What is promised of an ink percentage.
+use mathlib.Core.Path.{_≡_}
+use Prim.Native.Nat.{ℕ}
+use Rattle.meaning.specs.Ink.{inkOf, Nearest}
+
+-- r is the ink percentage of the grey g: the quotient that 01's rule computes, and the whole number nearest to (255 − g) × 100 / 255
+pub record Percentage (g r : ℕ) : Type 0 where
+  pub value : r ≡ inkOf g
+  pub nearest : Nearest g r

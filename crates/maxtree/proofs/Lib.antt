@@ -1,0 +1,2 @@
+-- One stage after the other.
+pub mod Stages

@@ -1,0 +1,5 @@
+-- Laws of numbering.
+pub mod Places
+pub mod Flooding
+pub mod Passes
+pub mod Stages

@@ -1,0 +1,2 @@
+-- What the passes of numbering do.
+pub mod Numbering

@@ -1,0 +1,10 @@
+pub mod Front
+pub mod Skipping
+pub mod Places
+pub mod Digits
+pub mod Sizes
+pub mod Copy
+pub mod Behind
+pub mod Parsing
+pub mod Reading
+pub mod Examples

@@ -1,0 +1,81 @@
+-- The refusals behind a sound header, in their order.
+use mathlib.Core.Path.{_≡_, sym, _∙_}
+use mathlib.Core.Bool.{true}
+use native.Mathlib.Omega.{arith}
+use borrow.Author.Tests.{not-true, not-false, eq-eqb, ne-eqb, lt-ltb, le-ltb}
+use Rattle.meaning.specs.Plate.{gridFits}
+use Rattle.pgm.specs.File.{rasterRefusal}
+use Rattle.pgm.proofs.Sizes.{pixels-most}
+use Rattle.pgm.proofs.raster_refusal.Statement.{statement}
+use Rattle.pgm.proofs.raster_refusal.Tie as tie
+
+-- past the first test the sizes are within the grid
+fits : (c : tie.Else1) → gridFits (c .before .before .args .width) (c .before .before .args .height) ≡ true
+fits c = sym (c .before .grid-fits .ensures) ∙ not-false _ (c .if1 .left)
+
+grid-fits-requires : tie.Need-grid-fits-requires
+grid-fits-requires c κs = tt
+
+returns : tie.Need-returns
+unfolding rasterRefusal
+returns c = rw (sym (c .before .grid-fits .ensures) ∙ not-true _ (c .if1 .taken))
+
+returns-2 : tie.Need-returns-2
+unfolding rasterRefusal
+returns-2 c = rw (fits (c .before), ne-eqb _ _ (c .if2 .taken))
+
+mul-pixels : tie.Need-mul-pixels
+mul-pixels c = omega (arith, pixels-most _ _ (fits (c .before)))
+
+cast-pixels : tie.Need-cast-pixels
+cast-pixels c = omega (arith, pixels-most _ _ (fits (c .before)))
+
+returns-3 : tie.Need-returns-3
+unfolding rasterRefusal
+returns-3 c = rw (fits (c .before .before), eq-eqb _ _ (c .before .if2 .left), lt-ltb _ _ (c .if3 .taken))
+
+returns-4 : tie.Need-returns-4
+unfolding rasterRefusal
+returns-4 c =
+    rw (
+      fits (c .before .before .before),
+      eq-eqb _ _ (c .before .before .if2 .left),
+      le-ltb _ _ (c .before .if3 .left),
+      lt-ltb _ _ (c .if4 .taken),
+    )
+
+returns-5 : tie.Need-returns-5
+unfolding rasterRefusal
+returns-5 c =
+    rw (
+      fits (c .before .before .before .before),
+      eq-eqb _ _ (c .before .before .before .if2 .left),
+      le-ltb _ _ (c .before .before .if3 .left),
+      le-ltb _ _ (c .before .if4 .left),
+      lt-ltb _ _ (c .if5 .taken),
+    )
+
+returns-6 : tie.Need-returns-6
+unfolding rasterRefusal
+returns-6 c =
+    rw (
+      fits (c .before .before .before .before),
+      eq-eqb _ _ (c .before .before .before .if2 .left),
+      le-ltb _ _ (c .before .before .if3 .left),
+      le-ltb _ _ (c .before .if4 .left),
+      le-ltb _ _ (c .if5 .left),
+    )
+
+pub raster-refusal-spec : {M : Type 1} → statement M
+raster-refusal-spec =
+    tie.close
+    (tie.spec
+    grid-fits-requires
+    returns
+    returns-2
+    mul-pixels
+    cast-pixels
+    returns-3
+    returns-4
+    returns-5
+    returns-6)

@@ -1,0 +1,64 @@
+-- A plate behind a sound header.
+use borrow.Author.Needs.{needs}
+use denote.Ref.{now}
+use lib.ListN.{length-drop}
+use Rattle.pgm.proofs.Sizes.{room-enough}
+use Rattle.pgm.proofs.Reading.{plate-refused, plate-read, part}
+use Rattle.pgm.proofs.read_plate.Statement.{statement}
+use Rattle.pgm.proofs.read_plate.Tie as tie
+
+sub-raster-refusal : tie.Need-sub-raster-refusal
+sub-raster-refusal c = search needs
+
+raster-refusal-requires : tie.Need-raster-refusal-requires
+raster-refusal-requires c κs = search needs
+
+refuse-requires : tie.Need-refuse-requires
+refuse-requires c κs = search needs
+
+returns : tie.Need-returns
+returns c =
+    let st = c .before .before .before .before .before in
+    plate-refused _ _ _ _ _ _ (length-drop (st .args .at) (now (st .args .file))) (c .before .before .raster-refusal .ensures) (c .before .if1 .taken)
+    (c .refuse .ensures)
+
+sub-copy-over : tie.Need-sub-copy-over
+sub-copy-over c = search needs
+
+part-copy-over-start : tie.Need-part-copy-over-start
+part-copy-over-start c = search needs
+
+part-copy-over-end : tie.Need-part-copy-over-end
+part-copy-over-end c = search needs
+
+copy-over-requires : tie.Need-copy-over-requires
+copy-over-requires c κs =
+    let st = c .before .before .before .before .before .before in
+    let room = room-enough _ _ _ _ _ (c .before .before .before .raster-refusal .ensures) (c .before .before .if1 .left) in
+    rw (part (now (st .args .file)) (st .args .at), length-drop (st .args .at) (now (st .args .file))) room
+
+same-length : tie.Need-same-length
+same-length c = search needs
+
+returns-2 : tie.Need-returns-2
+returns-2 c =
+    let st = c .before .before .before .before .before .before .before .before .before in
+    let s = now (st .args .file) in
+    plate-read _ _ _ _ _ _ (length-drop (st .args .at) s) (c .before .before .before .before .before .before .raster-refusal .ensures)
+    (c .before .before .before .before .before .if1 .left)
+    (rw (part s (st .args .at)) at (c .before .before .copy-over .ensures))
+
+pub read-plate-spec : {M : Type 1} → statement M
+read-plate-spec =
+    tie.close
+    (tie.spec
+    sub-raster-refusal
+    raster-refusal-requires
+    refuse-requires
+    returns
+    sub-copy-over
+    part-copy-over-start
+    part-copy-over-end
+    copy-over-requires
+    same-length
+    returns-2)

@@ -1,0 +1,148 @@
+-- Plate files and what reading them answers: each refusal, the order of the refusals where several are met, every blank, comments at every
+-- place, sizes at the limits, and files made by Netpbm's own tools.
+use mathlib.Core.List.{List, [], _∷_}
+use Prim.Native.Nat.{ℕ}
+use Prim.Native.String.{String}
+use lib.ListN.{length}
+use Rattle.meaning.specs.Answers.{outAfter}
+use Rattle.pgm.specs.Text.{bytes}
+use Rattle.pgm.specs.File.{readPgm, rasterOf, refused}
+use Rattle.pgm.specs.declared.PgmRead.{PgmRead}
+
+-- the answer, and the output afterwards
+pub record Result : Type 0 where
+  pub answer : PgmRead
+  pub after : List ℕ
+
+-- a file, the output before, and what is right
+pub record Case : Type 0 where
+  pub file : String
+  pub out : String
+  pub right : PgmRead
+  pub after : String
+
+unfoldable pub run : Case → Result
+unfolding bytes readPgm rasterOf
+run c =
+    let file = bytes (c .file) in
+    let out = bytes (c .out) in
+    let answer = readPgm file (length out) in
+    record { answer = answer; after = outAfter (answer .refusal) (rasterOf file) out }
+
+unfoldable pub expected : Case → Result
+unfolding bytes
+expected c = record { answer = c .right; after = bytes (c .after) }
+
+-- a refusal leaves the output as it was
+abbrev refuses : ℕ → String → String → Case
+refuses n out file = record { file = file; out = out; right = refused n; after = out }
+
+abbrev reads : ℕ → ℕ → String → String → String → Case
+reads w h out file after = record { file = file; out = out; right = record { refusal = 0; width = w; height = h }; after = after }
+
+abbrev pub cases : List Case
+cases =
+    -- 10: it does not open with "P5"
+    refuses 10 "........." ""
+    ∷ refuses 10 "........." "P"
+    ∷ refuses 10 "........." "P2 1 1 255 a"
+    ∷ refuses 10 "........." "p5 1 1 255 a"
+    ∷ refuses 10 "........." " P5 1 1 255 a"
+    -- 11: the first gap is missing, or begins with a comment
+    ∷ refuses 11 "........." "P5"
+    ∷ refuses 11 "........." "P51 1 255 a"
+    ∷ refuses 11 "........." "P5#c\n1 1 255 a"
+    -- 11: another gap or a number is missing
+    ∷ refuses 11 "........." "P5 "
+    ∷ refuses 11 "........." "P5 1"
+    ∷ refuses 11 "........." "P5 1 "
+    ∷ refuses 11 "........." "P5 1 1"
+    ∷ refuses 11 "........." "P5 1 1 "
+    ∷ refuses 11 "........." "P5 x 1 255 a"
+    ∷ refuses 11 "........." "P5 1 -1 255 a"
+    ∷ refuses 11 "........." "P5 1x1 255 a"
+    -- 11: other bytes are no blanks (a vertical tab, a form feed, a delete)
+    ∷ refuses 11 "........." "P5\u{b}1 1 255 a"
+    ∷ refuses 11 "........." "P5 1\u{c}1 255 a"
+    ∷ refuses 11 "........." "P5 1 1\u{7f}255 a"
+    -- 11: a comment interrupts a number, or stands in the place of a gap
+    ∷ refuses 11 "........." "P5 1#c\n1 1 255 a"
+    ∷ refuses 11 "........." "P5 1 1#c\n255 a"
+    -- 11: a comment that does not end
+    ∷ refuses 11 "........." "P5 #c"
+    ∷ refuses 11 "........." "P5 1 #1 255 a"
+    ∷ refuses 11 "........." "P5 1 1 #"
+    -- 11: six digits
+    ∷ refuses 11 "........." "P5 000001 1 255 a"
+    ∷ refuses 11 "........." "P5 1 000001 255 a"
+    ∷ refuses 11 "........." "P5 1 1 000255 a"
+    -- 11: the last blank is absent; a comment is none
+    ∷ refuses 11 "........." "P5 1 1 255"
+    ∷ refuses 11 "........." "P5 1 1 255a"
+    ∷ refuses 11 "........." "P5 1 1 255#c\na"
+    -- 2: sizes beyond the grid
+    ∷ refuses 2 "........." "P5 0 1 255 "
+    ∷ refuses 2 "........." "P5 1 0 255 "
+    ∷ refuses 2 "........." "P5 32769 1 255 "
+    ∷ refuses 2 "........." "P5 1 32769 255 "
+    ∷ refuses 2 "........." "P5 32768 513 255 "
+    ∷ refuses 2 "........." "P5 4097 4096 255 "
+    ∷ refuses 2 "........." "P5 99999 99999 255 "
+    -- 12: the third number is not 255
+    ∷ refuses 12 "........." "P5 1 1 254 a"
+    ∷ refuses 12 "........." "P5 1 1 256 a"
+    ∷ refuses 12 "........." "P5 1 1 0 a"
+    ∷ refuses 12 "........." "P5 1 1 65535 aa"
+    -- 14: raster short; the first four at the limits of the grid
+    ∷ refuses 14 "........." "P5 32768 512 255 "
+    ∷ refuses 14 "........." "P5 512 32768 255 "
+    ∷ refuses 14 "........." "P5 4096 4096 255 "
+    ∷ refuses 14 "........." "P5 1 32768 255 "
+    ∷ refuses 14 "........." "P5 1 1 255 "
+    ∷ refuses 14 "........." "P5 2 2 255 abc"
+    -- 15: bytes left over; of CR and LF behind 255 the LF is a pixel
+    ∷ refuses 15 "........." "P5 1 1 255 ab"
+    ∷ refuses 15 "........." "P5 1 1 255 a\n"
+    ∷ refuses 15 "........." "P5 1 1 255\r\na"
+    -- 5: output shorter than the pixels
+    ∷ refuses 5 "" "P5 1 1 255 a"
+    ∷ refuses 5 "..." "P5 2 2 255 abcd"
+    -- the first condition that is met: 10, 11, 2, 12, 14 or 15, 5
+    ∷ refuses 10 "........." "P6"
+    ∷ refuses 11 "........." "P5 0 0 7"
+    ∷ refuses 11 "........." "P5 99999 1 7x"
+    ∷ refuses 2 "" "P5 0 0 7 ab"
+    ∷ refuses 2 "" "P5 99999 1 255 "
+    ∷ refuses 12 "" "P5 2 2 7 a"
+    ∷ refuses 12 "" "P5 1 1 7 ab"
+    ∷ refuses 14 "" "P5 2 2 255 a"
+    ∷ refuses 15 "" "P5 1 1 255 ab"
+    -- every blank, and any mix of them
+    ∷ reads 1 1 "........." "P5 1 1 255 a" "a........"
+    ∷ reads 1 1 "........." "P5\t1\t1\t255\ta" "a........"
+    ∷ reads 1 1 "........." "P5\r1\r1\r255\ra" "a........"
+    ∷ reads 1 1 "........." "P5\n1\n1\n255\na" "a........"
+    ∷ reads 1 1 "........." "P5 \t\r\n1\n\n1\t \r255 a" "a........"
+    -- comments at every place, ended by LF or CR, empty, several, and with anything in them
+    ∷ reads 1 1 "........." "P5 #c\n1 1 255 a" "a........"
+    ∷ reads 1 1 "........." "P5 1 #c\n1 255 a" "a........"
+    ∷ reads 1 1 "........." "P5 1 1 #c\n255 a" "a........"
+    ∷ reads 1 1 "........." "P5 #c\r1 1 255 a" "a........"
+    ∷ reads 1 1 "........." "P5 #\n1 1 255 a" "a........"
+    ∷ reads 1 1 "........." "P5 #a\n#b\r #c\n\n1 1 255 a" "a........"
+    ∷ reads 1 1 "........." "P5 #1 # 2\n1 1 255 a" "a........"
+    -- the raster begins behind one blank, whatever its first byte is
+    ∷ reads 1 1 "........." "P5 1 1 255 #" "#........"
+    ∷ reads 1 1 "........." "P5 1 1 255  " " ........"
+    ∷ reads 2 1 "........." "P5 2 1 255\n#\n" "#\n......."
+    -- leading zeros; an output that is just long enough
+    ∷ reads 1 1 "........." "P5 00001 00001 00255 a" "a........"
+    ∷ reads 2 3 "------" "P5 2 3 255 abcdef" "abcdef"
+    -- files made by Netpbm: pgmmake 0.5 3 2; pgmramp -lr 4 3; pamtopnm of the small plate of 01; pgmmake -maxval=15 0.5 2 2; pbmmake -gray 4 2; two images
+    ∷ reads 3 2 "............" "P5\n3 2\n255\n\u{80}\u{80}\u{80}\u{80}\u{80}\u{80}" "\u{80}\u{80}\u{80}\u{80}\u{80}\u{80}......"
+    ∷ reads 4 3 "............" "P5\n4 3\n255\n\0Uªÿ\0Uªÿ\0Uªÿ" "\0Uªÿ\0Uªÿ\0Uªÿ"
+    ∷ reads 4 3 "............" "P5\n4 3\n255\n\n\n\n\n\n2\u{1e}\n\n\n\nZ" "\n\n\n\n\n2\u{1e}\n\n\n\nZ"
+    ∷ refuses 12 "............" "P5\n2 2\n15\n\u{8}\u{8}\u{8}\u{8}"
+    ∷ refuses 10 "............" "P4\n4 2\nP\u{a0}"
+    ∷ refuses 15 "............" "P5\n3 2\n255\n\u{80}\u{80}\u{80}\u{80}\u{80}\u{80}P5\n1 1\n255\n@"
+    ∷ []
