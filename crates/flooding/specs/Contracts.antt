@@ -2,7 +2,7 @@
 --     k the connectivity, wd and ht the width and height, n the pixels, h the lightest open level
 use mathlib.Core.Path.{_≡_}
 use mathlib.Core.Logic.{_⊎_}
-use mathlib.Core.Bool.{Bool, true}
+use mathlib.Core.Bool.{true}
 use mathlib.Core.List.{List}
 use Prim.Native.Nat.{ℕ, suc, _+_, _*_, _/_, _%_, _≤_, _<_}
 use lib.Dec.{T, ltb, eqb}
@@ -59,11 +59,11 @@ pub record Sizes (k wd ht n : ℕ) : Type 0 where
   pub tall : ht ≤ 32768
   pub pixels : n ≡ ht * wd
 
--- u: the lightest open level plus one; c: the pixel in hand, n where there is none
+-- u: the lightest open level plus one; c: the current pixel, n where there is none
 pub record Machine (k wd ht n : ℕ) (w t : List ℕ) (u c : ℕ) : Type 0 where
   pub sizes : Sizes k wd ht n
   pub room : Room w n
-  pub desk : Room t LEVELS
+  pub table-room : Room t LEVELS
   pub mach : Mach n (touch k wd) (col GREY n w) LEVELS (col OWN n w) (stack wd n w) (col FLOODAREA n w) (col FLOODPARENT n w)
       (level COUNT t) (level NAME t) (level TOP t) (level START t) (level NEXT t) u (level NODES t 0) c
 
@@ -80,7 +80,7 @@ left n w t = work n LEVELS (col OWN n w) (level COUNT t) (level TOP t) (level ST
 
 -- the level m is not open, and is to be linked into the chain that begins at u
 pub record Linkable (t : List ℕ) (m u : ℕ) : Type 0 where
-  pub desk : Room t LEVELS
+  pub table-room : Room t LEVELS
   pub inside : m < LEVELS
   pub free : level COUNT t m ≡ 0
   pub chain : Chain LEVELS (level COUNT t) (level NEXT t) u
@@ -100,7 +100,7 @@ pub record Relinked (t t′ : List ℕ) (m u : ℕ) : Type 0 where
 -- ---- a pixel is given its node and pushed
 
 pub record Nameable (t : List ℕ) (m u : ℕ) : Type 0 where
-  pub desk : Room t LEVELS
+  pub table-room : Room t LEVELS
   pub inside : m < LEVELS
   pub few : level COUNT t m < 16777216
   pub spare : level NODES t 0 < 16777216
@@ -146,11 +146,11 @@ pub record Pushed (n : ℕ) (w w′ t t′ : List ℕ) (q m e u : ℕ) : Type 0 
 
 -- ---- a step
 
--- between two steps: nothing is in hand
+-- between two steps: no pixel is current
 pub record Ready (k wd ht n : ℕ) (w t : List ℕ) (h : ℕ) : Type 0 where
   pub machine : Machine k wd ht n w t (h + 1) n
 
--- the pixel in column x of row y is in hand, a pixel of the lightest open level
+-- the pixel in column x of row y is the current one, of the lightest open level
 pub record Looking (k wd ht n : ℕ) (w t : List ℕ) (h x y : ℕ) : Type 0 where
   pub machine : Machine k wd ht n w t (h + 1) (y * wd + x)
   pub column : x < wd
@@ -163,7 +163,7 @@ pub record Toward (k wd ht x y x′ y′ : ℕ) : Type 0 where
   pub row : y′ < ht
   pub touches : T (touch k wd (y * wd + x) (y′ * wd + x′))
 
--- the pixels Q have been looked at from the pixel in hand. r is h where that stays in hand, else the level to which the flood has risen
+-- the pixels Q have been looked at from the current pixel. r is h where that stays the current one, else the level to which the flood has risen
 pub record Looked (k wd ht n : ℕ) (w w′ t t′ : List ℕ) (h x y : ℕ) (Q : ℕ → Type 0) (r : ℕ) : Type 0 where
   pub kept : Kept n w w′ t t′
   pub less : left n w′ t′ ≤ left n w t
@@ -172,7 +172,7 @@ pub record Looked (k wd ht n : ℕ) (w w′ t t′ : List ℕ) (h x y : ℕ) (Q 
   pub seen : r ≡ h → (q : ℕ) → q < n → Q q → col OWN n w′ q < n
   pub risen : (r ≡ h → ⊥) → Ready k wd ht n w′ t′ r
 
--- the pixel in direction d of the one in hand
+-- the pixel in direction d of the current one
 abbrev pub LookedIn : ℕ → ℕ → ℕ → ℕ → List ℕ → List ℕ → List ℕ → List ℕ → ℕ → ℕ → ℕ → ℕ → ℕ → Type 0
 LookedIn k wd ht n w w′ t t′ h x y d r = Looked k wd ht n w w′ t t′ h x y (λ (q : ℕ). Beside wd d (y * wd + x) q) r
 
@@ -183,16 +183,16 @@ UpperRow wd p q = (Beside wd 4 p q ⊎ Beside wd 3 p q) ⊎ Beside wd 6 p q
 abbrev pub LowerRow : ℕ → ℕ → ℕ → Type 0
 LowerRow wd p q = (Beside wd 7 p q ⊎ Beside wd 2 p q) ⊎ Beside wd 5 p q
 
--- the pixel in hand is done, or the flood has risen to r
+-- the current pixel is done, or the flood has risen to r
 pub record Visited (k wd ht n : ℕ) (w w′ t t′ : List ℕ) (r : ℕ) : Type 0 where
   pub kept : Kept n w w′ t t′
   pub less : left n w′ t′ ≤ left n w t
   pub ready : Ready k wd ht n w′ t′ r
 
--- the pixel of the entry e is in hand
-pub record Taken (k wd ht n : ℕ) (w t : List ℕ) (h e : ℕ) : Type 0 where
+-- the pixel of the entry e is the current one
+pub record Popped (k wd ht n : ℕ) (w t : List ℕ) (h e : ℕ) : Type 0 where
   pub machine : Machine k wd ht n w t (h + 1) (pixelOf wd n e)
-  pub hand : pixelOf wd n e < n
+  pub current : pixelOf wd n e < n
   pub high : col GREY n w (pixelOf wd n e) ≡ h
 
 -- the lightest open level h has nothing on its stack
@@ -218,7 +218,7 @@ pub record Counted (n : ℕ) (w w′ t t′ : List ℕ) (p : ℕ) : Type 0 where
 
 -- an empty table
 pub record Clean (t : List ℕ) : Type 0 where
-  pub desk : Room t LEVELS
+  pub table-room : Room t LEVELS
   pub zeros : (d m : ℕ) → d < 8 → m < LEVELS → level d t m ≡ 0
 
 -- START holds the sums of the values before, below m, and TOP the same; s is the sum of the first m
@@ -232,5 +232,5 @@ pub record Summed (t t′ : List ℕ) (m s : ℕ) : Type 0 where
 
 -- the sums fit
 pub record Summable (t : List ℕ) : Type 0 where
-  pub desk : Room t LEVELS
+  pub table-room : Room t LEVELS
   pub small : sum LEVELS (level START t) ≤ 16777216

@@ -10,7 +10,7 @@
 use mathlib.Core.Path.{_≡_}
 use mathlib.Core.Logic.{_⊎_}
 use mathlib.Core.Bool.{Bool, _&&_}
-use Prim.Native.Nat.{ℕ, suc, _+_, _-_, _*_, _≤_, _<_}
+use Prim.Native.Nat.{ℕ, _+_, _-_, _*_, _≤_, _<_}
 use lib.Dec.{T, ltb, eqb}
 use Rattle.meaning.specs.Sets.{area, has, sum}
 use Rattle.meaning.specs.Paths.{Joined}
@@ -107,7 +107,7 @@ Raised m u u′ = ((u ≤ m) × (u′ ≡ m + 1)) ⊎ ((m < u) × (u′ ≡ u))
 abbrev pub Pend : (ℕ → ℕ) → (ℕ → ℕ) → (ℕ → ℕ) → (ℕ → ℕ) → ℕ → Type 0
 Pend f stk start top r = (i : ℕ) × (start (f r) ≤ i) × (i < top (f r)) × (stk i ≡ r)
 
--- r lies on a stack, or is the one in hand, c (n where none is)
+-- r lies on a stack, or is the current one, c (n where none is)
 abbrev pub Todo : ℕ → (ℕ → ℕ) → (ℕ → ℕ) → (ℕ → ℕ) → (ℕ → ℕ) → ℕ → ℕ → Type 0
 Todo n f stk start top c r = (r < n) × (Pend f stk start top r ⊎ (r ≡ c))
 
@@ -126,9 +126,9 @@ pub record Stacks (n L : ℕ) (f own stk start top : ℕ → ℕ) (c : ℕ) : Ty
 -- ---- the whole
 
 -- the columns by level: count, name, top and start of its stack, next lower open level; u: the lightest open level plus one; k: the number of
--- nodes; c: the pixel in hand, n where there is none; lab is known to the proof alone
+-- nodes; c: the current pixel, n where there is none; lab is known to the proof alone
 pub record Mach (n : ℕ) (near : ℕ → ℕ → Bool) (f : ℕ → ℕ) (L : ℕ) (own stk size parent cnt name top start next : ℕ → ℕ) (u k c : ℕ) : Type 0 where
-  pub bright : (p : ℕ) → p < n → f p < L
+  pub greys-below : (p : ℕ) → p < n → f p < L
   pub lab : ℕ → ℕ
   pub labels : Labels n near f (Todo n f stk start top c) own lab u
   pub counts : Counts n near f L own lab cnt

@@ -1,7 +1,7 @@
 -- Directions: the neighbours of a pixel, numbered so that the connectivity is the number of directions. 0 to 3 are the sides, 4 and 5 the upper
 -- left and the lower right corner, 6 and 7 the other corners.
 use mathlib.Core.Path.{_≡_}
-use mathlib.Core.List.{List, [], _∷_}
+use mathlib.Core.List.{[], _∷_}
 use Prim.Native.Nat.{ℕ, _+_, _/_, _%_, _≤_}
 use Rattle.meaning.specs.Sets.{nth}
 
