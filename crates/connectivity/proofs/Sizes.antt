@@ -6,11 +6,7 @@ use native.Mathlib.Nat.{mul-le-mul}
 use native.Mathlib.Omega.{arith}
 use lib.Dec.{T, leb, leb→le}
 use Rattle.meaning.specs.Plate.{gridFits, maxPixels, maxSide}
-use Rattle.connectivity.proofs.Tests.{tests}
-
--- a test that passes, as a fact
-pub true-T : (b : Bool) → b ≡ true → T b
-true-T b e = rw e tt
+use Rattle.connectivity.proofs.Tests.{passes, tests}
 
 -- a side that fits
 pub record Side (s : ℕ) : Type 0 where
@@ -19,7 +15,7 @@ pub record Side (s : ℕ) : Type 0 where
 
 pub side-is : (s : ℕ) → (leb 1 s && leb s maxSide) ≡ true → Side s
 side-is s e =
-    let t : T (leb 1 s && leb s maxSide) = true-T (leb 1 s && leb s maxSide) e in
+    let t : T (leb 1 s && leb s maxSide) = passes e in
     record { least = leb→le 1 s (search tests); most = leb→le s maxSide (search tests) }
 
 -- a width, a height and pixels that fit
@@ -32,7 +28,7 @@ pub record Sizes (w h : ℕ) : Type 0 where
 pub grid-sizes : (w h : ℕ) → gridFits w h ≡ true → Sizes w h
 unfolding gridFits
 grid-sizes w h e =
-    let t : T (gridFits w h) = true-T (gridFits w h) e in
+    let t : T (gridFits w h) = passes e in
     let a : Side w = record { least = leb→le 1 w (search tests); most = leb→le w maxSide (search tests) } in
     let b : Side h = record { least = leb→le 1 h (search tests); most = leb→le h maxSide (search tests) } in
     record {
