@@ -1,11 +1,13 @@
 // The node list as one lent list of node entries. Few functions see the list: `fill` and `node_entries` write it, `node_at` reads it; their proofs are
 // by hand.
 ghost use mathlib.Core.Path.{_≡_};
-ghost use Prim.Native.Nat.{_<_};
-ghost use lib.ListN.{getD};
-ghost use Rattle.meaning.specs.Sets.{table};
+ghost use mathlib.Core.List.{_++_};
+ghost use Prim.Native.Nat.{_*_, _<_};
+ghost use lib.Dec.{eqb};
+ghost use lib.ListN.{drop, getD, replicate};
+ghost use Rattle.meaning.specs.Sets.{pick, table};
 ghost use Rattle.columns.specs.Columns.{Room};
-ghost use Rattle.entries.specs.Entries.{Fillable, none, over, standing};
+ghost use Rattle.entries.specs.Entries.{EntriesListed, Fillable, none, over, standing};
 
 const ANCHOR: usize = 2;
 
@@ -46,6 +48,38 @@ fn fill(list: &mut [Node], work: &[u32], n: usize, count: usize)
         list[i] = standing(work, n, i);
         i += 1;
     }
+}
+
+// Sets the work space to zero where a list was written.
+fn end_list(work: &mut [u32], n: usize, refusal: u32)
+    requires { ⌜ (refusal ≡ 0 → Room (now work) n) ⌝ }
+    ensures { λ _. ⌜ now (work .exit) ≡ pick (eqb refusal 0) (replicate (8 * n) 0 ++ drop (8 * n) (now (work .entry))) (now (work .entry)) ⌝ }
+{
+    if refusal == 0 {
+        columns::clear(work, n);
+    }
+}
+
+// The nodes of a plate as entries of one list.
+pub fn node_entries(
+    image: &[u8],
+    width: u32,
+    height: u32,
+    connectivity: u32,
+    list: &mut [Node],
+    work: &mut [u32],
+) -> filter::NodeList
+    ensures { λ r. ⌜ EntriesListed connectivity width height (now (image .entry)) (now (list .entry)) (now (list .exit))
+        (now (work .entry)) (now (work .exit)) (r .refusal) (r .count) ⌝ }
+{
+    let n = image.len();
+    let places = list.len();
+    let answer = filter::start_list(image, width, height, connectivity, places, work);
+    let count = answer.count as usize;
+    fill(list, work, n, count);
+    let refusal = answer.refusal;
+    end_list(work, n, refusal);
+    answer
 }
 
 // The entry at a place of the list; all zeros beyond its end.
