@@ -217,7 +217,15 @@ pub fn node_list(
         return list;
     }
     let n = image.len();
-    write_nodes(work, n, list.count as usize, levels, parents, areas, anchors);
+    write_nodes(
+        work,
+        n,
+        list.count as usize,
+        levels,
+        parents,
+        areas,
+        anchors,
+    );
     columns::clear(work, n);
     list
 }
