@@ -1,9 +1,9 @@
 -- A list whose first entries were written over.
-use mathlib.Core.Path.{_≡_, refl, sym, ap, _∙_}
-use mathlib.Core.List.{List, _++_}
+use mathlib.Core.Path.{_≡_, refl}
+use mathlib.Core.List.{List}
 use Prim.Native.Nat.{ℕ, _+_, _≤_, _<_}
 use native.Mathlib.Omega.{arith}
-use lib.ListN.{length, set, drop, length-append, length-drop}
+use lib.ListN.{length, set, length-append, length-drop}
 use Rattle.meaning.specs.Sets.{table}
 use Rattle.connectivity.proofs.Lists.{length-table}
 use Rattle.values.proofs.Tables.{written-more}

@@ -1,14 +1,14 @@
 -- From a started list and the columns of the work space to the node entries of the definition.
-use mathlib.Core.Path.{_≡_, refl, sym, ap, _∙_}
+use mathlib.Core.Path.{_≡_, refl, ap, _∙_}
 use mathlib.Core.Bool.{false}
 use mathlib.Core.List.{List, _++_}
-use Prim.Native.Nat.{ℕ, zero, suc, _*_, _≤_, _<_}
+use Prim.Native.Nat.{ℕ, zero, suc, _*_}
 use native.Mathlib.Omega.{arith}
 use lib.Dec.{eqb}
 use lib.ListN.{length, drop, replicate}
 use borrow.Author.Tests.{ne-eqb}
-use Rattle.meaning.specs.Nodes.{anchors, nodesOf}
-use Rattle.meaning.specs.Plate.{greatestGrey, grey, touch}
+use Rattle.meaning.specs.Nodes.{anchors}
+use Rattle.meaning.specs.Plate.{greatestGrey, touch}
 use Rattle.meaning.specs.Sets.{pick, table}
 use Rattle.columns.specs.Columns.{Room, col}
 use Rattle.columns.specs.Layout.{GREY}

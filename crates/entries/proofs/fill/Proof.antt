@@ -4,7 +4,7 @@
 use mathlib.Core.Path.{_≡_, refl, sym, ap, subst}
 use mathlib.Core.Bool.{Bool}
 use mathlib.Core.List.{[], _∷_, List}
-use Prim.Native.Nat.{ℕ, zero, suc, _+_, _-_, _*_, _^_, _<_, _≤_}
+use Prim.Native.Nat.{ℕ, zero, suc, _+_, _-_, _*_, _^_, _<_}
 use native.Mathlib.Omega.{arith}
 use lib.Dec.{lit<}
 use lib.ListN.{length}
@@ -17,7 +17,7 @@ use base.Logic.{SProp, ent, sep, id⊢, exE, snd∗}
 use base.Fml.{Lft, Share, GName, Fml, ftrue, flt, fat, froom, fdies, flft, fobs, fauth, fbor, fobor}
 use prog.Memory.{Memory}
 use prog.Routine.{Routine}
-use prog.Wp.{Heap, Out, Env, Calls, Loops, Wp, WpFn, Tables, afterBlock, afterSeq, afterTurn, atReturn}
+use prog.Wp.{Heap, Out, Env, Wp, WpFn, Tables, afterBlock, afterSeq, afterTurn, atReturn}
 use ghost.Atoms.{Atoms, sem}
 use contract.Monad.{Fun, fact}
 use contract.Running.{givenOf, tables, tablesOf}
@@ -48,7 +48,6 @@ use denote.Triple.Table.{entered, cited}
 use denote.Triple.Walked.{says, needs, Stays, stay-none, stay-none-slice, stay-slice, walkOf, goes-none, goes-none-slice, goes-slice, Walks, ends-at, walked, walk-meets}
 use denote.Exit.{yes}
 use denote.Signature.{plain}
-use Rattle.meaning.specs.Sets.{table}
 use Rattle.columns.specs.Columns.{Room as Eight}
 use Rattle.entries.specs.declared.Node.{Node}
 use Rattle.entries.specs.Entries.{Fillable, none, standing}

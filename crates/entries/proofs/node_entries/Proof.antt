@@ -42,7 +42,6 @@ use denote.Triple.Walked.{says, Stays, stay-none, stay-none-slice, gave-slice, w
 use denote.Exit.{yes}
 use denote.Signature.{plain}
 use Rattle.meaning.specs.Sets.{pick as choose, table}
-use Rattle.columns.specs.Columns.{Room as Eight}
 use Rattle.filter.specs.declared.NodeList.{NodeList}
 use Rattle.filter.specs.Operations.{Started}
 use Rattle.filter.proofs.NodeList as N
@@ -52,7 +51,7 @@ use Rattle.filter.proofs.start_list.Symbol as starting-def
 use Rattle.filter.proofs.start_list.Symbol.{name as #filter·start-list}
 use Rattle.filter.proofs.start_list.Met as starting-thm
 use Rattle.entries.specs.declared.Node.{Node}
-use Rattle.entries.specs.Entries.{EntriesListed, Fillable, over, standing}
+use Rattle.entries.specs.Entries.{EntriesListed, over, standing}
 use Rattle.entries.proofs.Lent.{LentAgain, LentShared, comes-back, lends-again, lends-shared, shared-back}
 use Rattle.entries.proofs.Results.{endable, entries-listed, fillable}
 use Rattle.entries.proofs.Node as T

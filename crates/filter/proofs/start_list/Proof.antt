@@ -1,12 +1,10 @@
 -- `filter::start_list` meets its contract.
 use mathlib.Core.Path.{sym, _∙_}
-use native.Mathlib.Omega.{arith}
 use borrow.Author.Needs.{needs}
 use denote.Ref.{now}
 use lib.ListN.{length}
 use Rattle.filter.proofs.start_list.Statement.{statement}
 use Rattle.filter.proofs.start_list.Tie as tie
-use Rattle.meaning.specs.Nodes.{anchors}
 use Rattle.checks.proofs.Refusals.{plate-later, tree-none}
 use Rattle.filter.proofs.NodeLists.{started-done, started-refused, started-short}
 
