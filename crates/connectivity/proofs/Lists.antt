@@ -35,18 +35,18 @@ pub length-table {ℓ} : {X : Type ℓ} (n : ℕ) (f : ℕ → X) → length (ta
 unfolding table
 length-table n f = length-map (span 0 n) f ∙ length-span 0 n
 
-span-more : (g : ℕ → ℕ) (from i : ℕ) → map g (span from (suc i)) ≡ map g (span from i) ++ (g (from + i) ∷ [])
+span-more : {X : Type 0} (g : ℕ → X) (from i : ℕ) → map g (span from (suc i)) ≡ map g (span from i) ++ (g (from + i) ∷ [])
 unfolding span
 span-more g from zero = rw add-zero
 span-more g from (suc i) = rw (add-suc, ← suc-add, span-more g (suc from) i)
 
 -- one more value
-pub table-suc : (g : ℕ → ℕ) (i : ℕ) → table (suc i) g ≡ table i g ++ (g i ∷ [])
+pub table-suc : {X : Type 0} (g : ℕ → X) (i : ℕ) → table (suc i) g ≡ table i g ++ (g i ∷ [])
 unfolding table
 table-suc g i = span-more g 0 i ∙ rw zero-add
 
 -- functions that agree below n have one table
-pub table-same : (n : ℕ) (g g′ : ℕ → ℕ) → ((p : ℕ) → p < n → g p ≡ g′ p) → table n g ≡ table n g′
+pub table-same : {X : Type 0} (n : ℕ) (g g′ : ℕ → X) → ((p : ℕ) → p < n → g p ≡ g′ p) → table n g ≡ table n g′
 unfolding table
 table-same zero g g′ e = refl
 table-same (suc n) g g′ e =

@@ -10,11 +10,11 @@ use Rattle.meaning.specs.Sets.{table}
 use Rattle.connectivity.proofs.Lists.{length-table, table-suc}
 
 -- one more value
-pub written-more : (g : ℕ → ℕ) (i v : ℕ) (d : List ℕ) → i < length d → v ≡ g i
+pub written-more : {X : Type 0} (g : ℕ → X) (i : ℕ) (v : X) (d : List X) → i < length d → v ≡ g i
     → set (table i g ++ drop i d) i v ≡ table (i + 1) g ++ drop (i + 1) d
 written-more g i v d l e =
-    rw (e, add-one, drop-cons d i 0 l, table-suc g i, append-snoc (table i g) (g i) (drop (suc i) d))
-    (set-at (table i g) (getD d i 0) (drop (suc i) d) (g i) i (length-table i g))
+    rw (e, add-one, drop-cons d i v l, table-suc g i, append-snoc (table i g) (g i) (drop (suc i) d))
+    (set-at (table i g) (getD d i v) (drop (suc i) d) (g i) i (length-table i g))
 
 -- all values, in the words of the contracts
 pub written-over : (n : ℕ) (g : ℕ → ℕ) (d : List ℕ) → table n g ++ drop n d ≡ over (table n g) d
