@@ -56,6 +56,7 @@ digits-few (suc k) (suc m) v l =
     let tenth : v / 10 < 10 ^ suc k = div-lt-iff-lt-mul {k = 10} {x = v} {y = 10 ^ suc k} (omega arith) .1 (rw (pow-suc 10 (suc k)) at l) in
     rw (digits-more m v (omega arith), length-append (digits m (v / 10)) (digit (v % 10) ∷ [])) (omega (arith, digits-few k m (v / 10) tenth)))
 
-pub decimal-few : (k v : ℕ) → v < 10 ^ suc k → length (decimal v) ≤ suc k
+-- a number of 64 bits has at most twenty
+pub decimal-twenty : (v : ℕ) → v < 18446744073709551616 → length (decimal v) ≤ 20
 unfolding decimal
-decimal-few k v l = digits-few k (suc v) v l
+decimal-twenty v l = digits-few 19 (suc v) v (omega arith)

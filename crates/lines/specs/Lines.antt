@@ -2,7 +2,7 @@
 use mathlib.Core.Path.{_≡_}
 use mathlib.Core.Bool.{Bool, true, false}
 use mathlib.Core.List.{List, [], _∷_, _++_}
-use Prim.Native.Nat.{ℕ, zero, suc, _+_, _/_, _%_}
+use Prim.Native.Nat.{ℕ, zero, suc, _+_, _/_, _%_, _≤_}
 use lib.Dec.{ltb}
 use lib.ListN.{length}
 use lib.Seq.{sets}
@@ -35,7 +35,8 @@ unfoldable pub line : List ℕ → List ℕ → List ℕ
 unfolding further
 line first numbers = (first ++ further numbers) ++ (10 ∷ [])
 
--- bytes were put into a text from the place `at` on: what stands there now, and the place behind them
+-- bytes were put into a text from the place `at` on: what stands there now, and the place behind them, which is no further than the end
 pub record Put (text : List ℕ) (at : ℕ) (bytes text′ : List ℕ) (next : ℕ) : Type 0 where
   pub behind : next ≡ at + length bytes
+  pub room : next ≤ length text
   pub stored : text′ ≡ sets text at bytes

@@ -27,10 +27,11 @@ pub fn put_word(text: &mut [u8], at: usize, word: &[u8]) -> usize
     at + i
 }
 
-// Puts a number in decimal. It calls itself for the digits in front of the last, so it is at most twenty calls deep.
+// Puts a number in decimal, at most twenty digits. It calls itself for the digits in front of the last, so it is at most twenty calls deep.
 pub fn put_decimal(text: &mut [u8], at: usize, value: u64) -> usize
-    requires { ⌜ at + length (decimal value) ≤ length (now text) ⌝ }
+    requires { ⌜ at + 20 ≤ length (now text) ⌝ }
     ensures { λ r. ⌜ Put (now (text .entry)) at (decimal value) (now (text .exit)) r ⌝ }
+    ensures { λ r. ⌜ r ≤ at + 20 ⌝ }
 {
     if value < 10 {
         return put_byte(text, at, 48 + value as u8);
@@ -41,8 +42,9 @@ pub fn put_decimal(text: &mut [u8], at: usize, value: u64) -> usize
 
 // Puts a space and a number.
 pub fn put_field(text: &mut [u8], at: usize, value: u64) -> usize
-    requires { ⌜ at + length (field value) ≤ length (now text) ⌝ }
+    requires { ⌜ at + 21 ≤ length (now text) ⌝ }
     ensures { λ r. ⌜ Put (now (text .entry)) at (field value) (now (text .exit)) r ⌝ }
+    ensures { λ r. ⌜ r ≤ at + 21 ⌝ }
 {
     let next = put_byte(text, at, b' ');
     put_decimal(text, next, value)

@@ -6,7 +6,7 @@ use borrow.Author.Needs.{needs}
 use lib.ListN.{length}
 use borrow.Fn.Kinds.{In}
 use borrow.Fn.PlainCycle.{Measures, is, falls, and}
-use Rattle.lines.proofs.Decimals.{decimal-length, decimal-more, decimal-one}
+use Rattle.lines.proofs.Decimals.{decimal-length, decimal-more, decimal-one, decimal-twenty}
 use Rattle.lines.proofs.Pieces.{put-length, put-put}
 use Rattle.lines.proofs.put_decimal.Reads as put-decimal
 use Rattle.lines.proofs.put_decimal.Kinds as put-decimal-kinds
@@ -37,18 +37,21 @@ module _ (t : ℕ) where
   add-put-byte c = omega arith
 
   put-byte-requires : put-decimal-lts.Need-put-byte-requires (calls t) (decimal-at t) put-decimal.Post
-  put-byte-requires c κs = let s = c .before .before .before in omega (arith, s .pre .1, ap length (decimal-one (s .args .value) (c .before .if1 .taken)))
+  put-byte-requires c κs = omega (arith, c .before .before .before .pre .1)
 
   same-length : put-decimal-lts.Need-same-length (calls t) (decimal-at t) put-decimal.Post
   same-length c = search needs
 
   returns : put-decimal-lts.Need-returns (calls t) (decimal-at t) put-decimal.Post
-  returns c = rw (decimal-one (c .before .before .before .before .before .before .args .value) (c .before .before .before .before .if1 .taken)) (c .before .before .put-byte .ensures)
+  returns c =
+      let p = c .before .before .put-byte .ensures in
+      let s = c .before .before .before .before .before .before in
+      (rw (decimal-one (s .args .value) (c .before .before .before .before .if1 .taken)) p, omega (arith, p .behind))
 
   put-decimal-requires : put-decimal-lts.Need-put-decimal-requires (calls t) (decimal-at t) put-decimal.Post
   put-decimal-requires c κs =
       let s = c .before .before .before in
-      (omega (arith, s .pre .0, c .before .if1 .left), omega (arith, s .pre .1, decimal-length (s .args .value) (c .before .if1 .left)))
+      (omega (arith, s .pre .0, c .before .if1 .left), omega (arith, s .pre .1))
 
   cast-put-byte-2 : put-decimal-lts.Need-cast-put-byte-2 (calls t) (decimal-at t) put-decimal.Post
   cast-put-byte-2 c = omega arith
@@ -60,7 +63,15 @@ module _ (t : ℕ) where
   put-byte-requires-2 c κs =
       let d = c .before .before .before in
       let s = d .before .before .before .before in
-      omega (arith, s .pre .1, d .put-decimal .ensures .behind, put-length (d .put-decimal .ensures), decimal-length (s .args .value) (d .before .before .if1 .left))
+      let p = d .put-decimal .ensures .0 in
+      omega (
+        arith,
+        s .pre .1,
+        p .behind,
+        put-length p,
+        decimal-length (s .args .value) (d .before .before .if1 .left),
+        decimal-twenty (s .args .value) (omega arith),
+      )
 
   same-length-2 : put-decimal-lts.Need-same-length-2 (calls t) (decimal-at t) put-decimal.Post
   same-length-2 c = search needs
@@ -68,8 +79,10 @@ module _ (t : ℕ) where
   returns-2 : put-decimal-lts.Need-returns-2 (calls t) (decimal-at t) put-decimal.Post
   returns-2 c =
       let d = c .before .before .before .before .before .before in
-      rw (decimal-more (d .before .before .before .before .args .value) (d .before .before .if1 .left))
-      (put-put (d .put-decimal .ensures) (c .before .before .put-byte2 .ensures))
+      let s = d .before .before .before .before in
+      let p = put-put (d .put-decimal .ensures .0) (c .before .before .put-byte2 .ensures) in
+      let e = decimal-more (s .args .value) (d .before .before .if1 .left) in
+      (rw e p, omega (arith, p .behind, ap length e, decimal-twenty (s .args .value) (omega arith)))
 
 pub +put-decimal-spec : {M : Type 1} → statement M
 +put-decimal-spec =
