@@ -98,14 +98,14 @@ read-sized file room z = header-none (header file) room z
 -- what stands in front of the output's excess is the raster
 module _ (file out out′ : List ℕ) (r : PgmRead) (e : r ≡ readPgm file (length out)) (z : r .refusal ≡ 0)
     (o : out′ ≡ outAfter (readPgm file (length out) .refusal) (rasterOf file) out)
-    where
-  pub read-is : Sized (r .width) (r .height) (length out) (rasterOf file)
-  read-is = rw e (read-sized file (length out) (rw e at z))
+  where
+    pub read-is : Sized (r .width) (r .height) (length out) (rasterOf file)
+    read-is = rw e (read-sized file (length out) (rw e at z))
 
-  pub raster-is : take (r .width * r .height) out′ ≡ rasterOf file
-  raster-is =
-      let z′ : readPgm file (length out) .refusal ≡ 0 = rw e at z in
-      rw (o, eq-eqb (readPgm file (length out) .refusal) 0 z′) (take-at (rasterOf file) (drop (length (rasterOf file)) out) (r .width * r .height) (read-is .long))
+    pub raster-is : take (r .width * r .height) out′ ≡ rasterOf file
+    raster-is =
+        let z′ : readPgm file (length out) .refusal ≡ 0 = rw e at z in
+        rw (o, eq-eqb (readPgm file (length out) .refusal) 0 z′) (take-at (rasterOf file) (drop (length (rasterOf file)) out) (r .width * r .height) (read-is .long))
 
 -- ---- for the program
 

@@ -119,35 +119,35 @@ module _ {w h : ℕ} {f : List ℕ} (pl : Plate sides w h f) where
 
   module _ {given counted counted′ lost lost′ work work′ : List ℕ} {r : SizeHead} (same : given ≡ bytes) (a : w * h - 1 ≤ length counted)
       (b : w * h - 1 ≤ length lost) (c : 8 * (w * h) ≤ length work) (x : ListedSizes (readOf given (length work)) counted counted′ lost lost′ work work′ r)
-      where
-    listed : ListedSizes (plate sides w h f) counted counted′ lost lost′ work work′ r
-    listed = rw (same, read-there pl (length work) c) at x
+    where
+      listed : ListedSizes (plate sides w h f) counted counted′ lost lost′ work work′ r
+      listed = rw (same, read-there pl (length work) c) at x
 
-    none : sizeRefusal (plate sides w h f) (length counted) (length lost) ≡ 0
-    none = rw (le-ltb (length counted) (w * h - 1) a, le-ltb (length lost) (w * h - 1) b)
+      none : sizeRefusal (plate sides w h f) (length counted) (length lost) ≡ 0
+      none = rw (le-ltb (length counted) (w * h - 1) a, le-ltb (length lost) (w * h - 1) b)
 
-    head-is : r ≡ record { refusal = 0; width = w; height = h; connectivity = sides; nodes = length xs; darkest = darkest f }
-    head-is = listed .answer ∙ rw none
+      head-is : r ≡ record { refusal = 0; width = w; height = h; connectivity = sides; nodes = length xs; darkest = darkest f }
+      head-is = listed .answer ∙ rw none
 
-    pub listed-low : r .darkest < 256
-    listed-low = omega (arith, ap (λ (s : SizeHead). s .darkest) head-is, darkest-low)
+      pub listed-low : r .darkest < 256
+      listed-low = omega (arith, ap (λ (s : SizeHead). s .darkest) head-is, darkest-low)
 
-    counts-length : length (counts sides w f) ≡ length f - 1
-    unfolding counts
-    counts-length = length-table (length f - 1) (λ (i : ℕ). countAt (length f) (touch sides w) (grey f) xs (attribute (length f)) (suc i))
+      counts-length : length (counts sides w f) ≡ length f - 1
+      unfolding counts
+      counts-length = length-table (length f - 1) (λ (i : ℕ). countAt (length f) (touch sides w) (grey f) xs (attribute (length f)) (suc i))
 
-    losses-length : length (losses sides w f) ≡ length f - 1
-    unfolding losses
-    losses-length = length-table (length f - 1) (λ (i : ℕ). lostAt (length f) (touch sides w) (grey f) xs (attribute (length f)) (suc i))
+      losses-length : length (losses sides w f) ≡ length f - 1
+      unfolding losses
+      losses-length = length-table (length f - 1) (λ (i : ℕ). lostAt (length f) (touch sides w) (grey f) xs (attribute (length f)) (suc i))
 
-    sizes-are : gather (length f - 1) (sizeLine counted′ lost′) ≡ gather (length f - 1) (sizeLine (counts sides w f) (losses sides w f))
-    sizes-are =
-        rw (listed .count-table, listed .loss-table, none)
-        (sizes-over (length f - 1) (counts sides w f) (losses sides w f) counted lost counts-length losses-length)
+      sizes-are : gather (length f - 1) (sizeLine counted′ lost′) ≡ gather (length f - 1) (sizeLine (counts sides w f) (losses sides w f))
+      sizes-are =
+          rw (listed .count-table, listed .loss-table, none)
+          (sizes-over (length f - 1) (counts sides w f) (losses sides w f) counted lost counts-length losses-length)
 
-    pub listed-text : (headLine (r .width) (r .height) (r .connectivity) (r .nodes) ++ gather (length f - 1) (sizeLine counted′ lost′)) ++ restLine (r .darkest)
-        ≡ plateText w h f
-    listed-text =
-        ap (λ (s : SizeHead). (headLine (s .width) (s .height) (s .connectivity) (s .nodes) ++ gather (length f - 1) (sizeLine counted′ lost′)) ++ restLine (s .darkest))
-        head-is
-        ∙ ap (λ (l : List ℕ). (headLine w h sides (length xs) ++ l) ++ restLine (darkest f)) sizes-are ∙ sym plate-text-is
+      pub listed-text : (headLine (r .width) (r .height) (r .connectivity) (r .nodes) ++ gather (length f - 1) (sizeLine counted′ lost′)) ++ restLine (r .darkest)
+          ≡ plateText w h f
+      listed-text =
+          ap (λ (s : SizeHead). (headLine (s .width) (s .height) (s .connectivity) (s .nodes) ++ gather (length f - 1) (sizeLine counted′ lost′)) ++ restLine (s .darkest))
+          head-is
+          ∙ ap (λ (l : List ℕ). (headLine w h sides (length xs) ++ l) ++ restLine (darkest f)) sizes-are ∙ sym plate-text-is

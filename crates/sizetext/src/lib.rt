@@ -90,13 +90,7 @@ fn plate_text(image: &[u8], width: u32, height: u32, text: &mut [u8]) -> usize
     let mut counts = [0u32; 1023];
     let mut losses = [0u64; 1023];
     let list = record::size_list(&bytes[..size], &mut counts, &mut losses, &mut work);
-    let sizes = put_head(
-        text,
-        list.width,
-        list.height,
-        list.connectivity,
-        list.nodes,
-    );
+    let sizes = put_head(text, list.width, list.height, list.connectivity, list.nodes);
     let rest = put_sizes(text, sizes, &counts, &losses, image.len() - 1);
     put_rest(text, rest, list.darkest)
 }
