@@ -76,6 +76,7 @@ fn reformed(record: &[u8], cases: &mut Vec<Case>) {
             &[128; 12],
             &[b | 128],
         ];
+        all(&[&record[..i], forms[0], &record[i + 1..]].concat(), cases);
         for form in forms {
             read(&[&record[..i], form, &record[i + 1..]].concat(), cases);
         }
@@ -168,5 +169,9 @@ fn other_plates(cases: &mut Vec<Case>) {
     ];
     for record in records {
         all(record, cases);
+        // 24 stands ahead of 4 and 5
+        for name in ["read", "cut", "sizes"] {
+            cases.push(Case::on_bytes(name, 0, 97, record));
+        }
     }
 }
