@@ -1,0 +1,104 @@
+//! The images of the benchmarks.
+
+/// Their names, in the order of the tables.
+pub const KINDS: [&str; 6] = [
+    "noise",
+    "terrain",
+    "ramp",
+    "flat",
+    "checkerboard",
+    "serpentine",
+];
+
+/// An image of a kind.
+pub fn image(kind: &str, width: usize, height: usize) -> Vec<u8> {
+    match kind {
+        "noise" => noise(width * height),
+        "terrain" => terrain(width, height),
+        "ramp" => by_pixel(width, height, |x, y| {
+            ((x + y) * 255 / (width + height - 2).max(1)) as u8
+        }),
+        "flat" => vec![128; width * height],
+        "checkerboard" => by_pixel(width, height, |x, y| if (x + y) % 2 == 0 { 255 } else { 0 }),
+        "serpentine" => by_pixel(width, height, |x, y| corridor(x, y, width)),
+        _ => panic!("no image is called {kind}"),
+    }
+}
+
+fn by_pixel(width: usize, height: usize, grey: impl Fn(usize, usize) -> u8) -> Vec<u8> {
+    (0..width * height)
+        .map(|p| grey(p % width, p / width))
+        .collect()
+}
+
+/// A light corridor that runs to and fro between dark walls.
+fn corridor(x: usize, y: usize, width: usize) -> u8 {
+    let open = match y % 4 {
+        0 | 2 => true,
+        1 => x == width - 1,
+        _ => x == 0,
+    };
+    if open {
+        255
+    } else {
+        0
+    }
+}
+
+/// Greys by chance (xorshift).
+fn noise(pixels: usize) -> Vec<u8> {
+    let mut state = 88_172_645_463_325_252u64;
+    (0..pixels)
+        .map(|_| {
+            state ^= state << 13;
+            state ^= state >> 7;
+            state ^= state << 17;
+            (state >> 33) as u8
+        })
+        .collect()
+}
+
+/// Hills: noise on finer and finer grids, each weaker than the last.
+pub fn terrain(width: usize, height: usize) -> Vec<u8> {
+    let mut heights = vec![0f32; width * height];
+    let mut cell = (width.max(height) / 2).max(2);
+    let mut strength = 1f32;
+    while cell >= 1 {
+        add_octave(&mut heights, width, cell, strength);
+        cell /= 2;
+        strength *= 0.55;
+    }
+    let least = heights.iter().copied().fold(f32::MAX, f32::min);
+    let greatest = heights.iter().copied().fold(f32::MIN, f32::max);
+    let scale = 255.999 / (greatest - least).max(1e-9);
+    heights
+        .iter()
+        .map(|h| ((h - least) * scale) as u8)
+        .collect()
+}
+
+/// Adds noise that is given at the corners of square cells and runs evenly between them.
+fn add_octave(heights: &mut [f32], width: usize, cell: usize, strength: f32) {
+    for (p, height) in heights.iter_mut().enumerate() {
+        let (x, y) = (p % width, p / width);
+        let (column, row) = (x / cell, y / cell);
+        let (right, down) = (
+            (x % cell) as f32 / cell as f32,
+            (y % cell) as f32 / cell as f32,
+        );
+        let corner = |dx, dy| by_chance(column + dx, row + dy, cell);
+        let upper = corner(0, 0) * (1.0 - right) + corner(1, 0) * right;
+        let lower = corner(0, 1) * (1.0 - right) + corner(1, 1) * right;
+        *height += strength * (upper * (1.0 - down) + lower * down);
+    }
+}
+
+/// A number from 0 to 1 that looks like chance, by column, row and cell.
+fn by_chance(column: usize, row: usize, cell: usize) -> f32 {
+    let mut z = (column as u64).wrapping_mul(0x9E37_79B9_7F4A_7C15)
+        ^ (row as u64).wrapping_mul(0xC2B2_AE3D_27D4_EB4F)
+        ^ (cell as u64).wrapping_mul(0x1656_67B1_9E37_79F9);
+    z = (z ^ (z >> 29)).wrapping_mul(0xBF58_476D_1CE4_E5B9);
+    z = (z ^ (z >> 32)).wrapping_mul(0x94D0_49BB_1331_11EB);
+    ((z ^ (z >> 29)) >> 40) as f32 / (1u32 << 24) as f32
+}
