@@ -50,7 +50,7 @@ impl Plate {
         Ok(Plate::new(head.width, head.height, greys))
     }
 
-    /// The header of the plate file that has this plate, and, behind it, the greys.
+    /// The header of the plate file that has this plate; the greys follow it.
     pub fn pgm_header(&self) -> String {
         format!("P5\n{} {}\n255\n", self.width, self.height)
     }
