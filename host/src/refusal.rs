@@ -40,7 +40,10 @@ const MEANINGS: [(Refusal, &str); 16] = [
         Refusal::Limit,
         "the limit is 0 or above the number of pixels",
     ),
-    (Refusal::OutputShort, "an output is too short for the answer"),
+    (
+        Refusal::OutputShort,
+        "an output is too short for the answer",
+    ),
     (
         Refusal::WorkShort,
         "the work space has fewer than 8 numbers for each pixel",

@@ -154,34 +154,72 @@ impl<const CHECKED: bool> Flood<'_, CHECKED> {
         if at.y == 0 {
             return h;
         }
-        self.look(at, Pixel { x: at.x, y: at.y - 1 }, h)
+        self.look(
+            at,
+            Pixel {
+                x: at.x,
+                y: at.y - 1,
+            },
+            h,
+        )
     }
 
     fn lower(&mut self, at: Pixel, h: usize) -> usize {
         if self.height <= at.y + 1 {
             return h;
         }
-        self.look(at, Pixel { x: at.x, y: at.y + 1 }, h)
+        self.look(
+            at,
+            Pixel {
+                x: at.x,
+                y: at.y + 1,
+            },
+            h,
+        )
     }
 
     fn left(&mut self, at: Pixel, h: usize) -> usize {
         if at.x == 0 {
             return h;
         }
-        self.look(at, Pixel { x: at.x - 1, y: at.y }, h)
+        self.look(
+            at,
+            Pixel {
+                x: at.x - 1,
+                y: at.y,
+            },
+            h,
+        )
     }
 
     fn right(&mut self, at: Pixel, h: usize) -> usize {
         if self.width <= at.x + 1 {
             return h;
         }
-        self.look(at, Pixel { x: at.x + 1, y: at.y }, h)
+        self.look(
+            at,
+            Pixel {
+                x: at.x + 1,
+                y: at.y,
+            },
+            h,
+        )
     }
 
     /// The pixel left or right of `at`, where there is one.
     fn corner(&mut self, at: Pixel, right: bool, lower: bool, h: usize) -> usize {
-        let outside = if right { self.width <= at.x + 1 } else { at.x == 0 };
-        if outside || (if lower { self.height <= at.y + 1 } else { at.y == 0 }) {
+        let outside = if right {
+            self.width <= at.x + 1
+        } else {
+            at.x == 0
+        };
+        if outside
+            || (if lower {
+                self.height <= at.y + 1
+            } else {
+                at.y == 0
+            })
+        {
             return h;
         }
         let x = if right { at.x + 1 } else { at.x - 1 };
@@ -365,7 +403,13 @@ fn deliver<const CHECKED: bool>(work: &mut [u32], pixels: usize, negated: bool, 
     work[..8 * pixels].fill(0);
 }
 
-fn clean<const CHECKED: bool>(image: Image, negated: bool, limit: u32, out: &mut [u8], work: &mut [u32]) {
+fn clean<const CHECKED: bool>(
+    image: Image,
+    negated: bool,
+    limit: u32,
+    out: &mut [u8],
+    work: &mut [u32],
+) {
     let pixels = image.greys.len();
     let count = build::<CHECKED>(image, negated, work);
     let mut columns = Columns::<CHECKED>::of(work, pixels);

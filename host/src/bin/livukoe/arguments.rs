@@ -223,7 +223,10 @@ impl Given {
         let wanted = if form.output { 2 } else { 1 };
         if self.files.len() != wanted {
             let files = if form.output { "IN and OUT" } else { "IN" };
-            return Err(format!("{name} takes {files}, and {} files are given", self.files.len()));
+            return Err(format!(
+                "{name} takes {files}, and {} files are given",
+                self.files.len()
+            ));
         }
         let mut files = self.files.into_iter();
         Ok(Command {

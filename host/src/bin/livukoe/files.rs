@@ -50,10 +50,7 @@ fn is_special(path: &Path) -> bool {
 }
 
 /// Writes a temporary file beside the target and renames it.
-fn replace(
-    path: &Path,
-    content: impl FnOnce(&mut dyn Write) -> io::Result<()>,
-) -> io::Result<()> {
+fn replace(path: &Path, content: impl FnOnce(&mut dyn Write) -> io::Result<()>) -> io::Result<()> {
     let target = fs::canonicalize(path).unwrap_or_else(|_| path.to_owned());
     let temporary = temporary_beside(&target);
     let written = write_new(&temporary, &target, content);

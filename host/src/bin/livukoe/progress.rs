@@ -23,7 +23,10 @@ impl Progress {
                 let began = Instant::now();
                 let mut wait = PATIENCE;
                 while let Err(RecvTimeoutError::Timeout) = over.recv_timeout(wait) {
-                    show(&format!("livukoe: {doing}, {:.1} s", began.elapsed().as_secs_f64()));
+                    show(&format!(
+                        "livukoe: {doing}, {:.1} s",
+                        began.elapsed().as_secs_f64()
+                    ));
                     wait = TICK;
                 }
                 if began.elapsed() >= PATIENCE {
