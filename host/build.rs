@@ -13,6 +13,8 @@ fn main() {
             archive.display()
         );
     }
+    // the tests compile C programs with the same archive
+    println!("cargo:rustc-env=LIVUKOE_LIB_DIR={}", directory.display());
     println!("cargo:rustc-link-search=native={}", directory.display());
     println!("cargo:rustc-link-lib=static=capi");
     println!("cargo:rerun-if-changed={}", archive.display());
