@@ -10,8 +10,8 @@ use Rattle.columns.specs.Layout.{Greys}
 use Rattle.plate.specs.Standing.{Standing}
 use Rattle.parse.specs.Parse.{Parsed, early, late, plate}
 use Rattle.parse.specs.declared.Parse.{Parse}
-use Rattle.record.specs.declared.Found.{Found}
-use Rattle.record.specs.declared.Found.the-variants.{Early, Late, Tree}
+use Rattle.readtree.specs.declared.Found.{Found}
+use Rattle.readtree.specs.declared.Found.the-variants.{Early, Late, Tree}
 
 -- the answer and the work space, for what the definitions find: nothing has changed ahead of the work; behind 6 only the eight columns have; the tree of
 -- an accepted plate stands in them

@@ -1,14 +1,17 @@
 -- Reading a record up to 24: from what parsing finds to the tree in the work space, and what the work space is when an operation gives up.
--- (begun: `cleared`, `unspelt-found` and the first two clauses of `spelt` are accepted by the checker; the rest is not checked yet)
 use mathlib.Core.Path.{_≡_, refl, sym, ap, _∙_}
 use mathlib.Core.Bool.{Bool, true, false}
-use mathlib.Core.List.{List, _++_}
+use mathlib.Core.Logic.{_⊎_, ⊎-elim}
+use mathlib.Core.List.{List, [], _∷_, _++_}
 use Prim.Native.Nat.{ℕ, _*_, _≤_, _<_}
 use native.Mathlib.Omega.{arith}
 use lib.ListN.{length, drop, replicate}
+use types.Run.{OneOf}
+use denote.Enum.Declared.{tagOf}
 use Rattle.parse.specs.declared.Parse.{Parse}
-use Rattle.record.specs.declared.Found.{Found}
-use Rattle.record.specs.declared.Found.the-variants.{Early, Late, Tree}
+use Rattle.parse.proofs.Parse.{the-type}
+use Rattle.readtree.specs.declared.Found.{Found}
+use Rattle.readtree.specs.declared.Found.the-variants.{Early, Late, Tree}
 use Rattle.meaning.specs.Answers.{workAfter}
 use Rattle.meaning.specs.Plate.{Plate, grey}
 use Rattle.meaning.specs.Record.{recordOf}
@@ -17,6 +20,7 @@ use Rattle.columns.specs.Layout.{Buildable, Built, GREY}
 use Rattle.columns.proofs.Columns.{frame-room, frame-trans}
 use Rattle.checks.proofs.Sizes.{Sizes, grid-sizes}
 use Rattle.plate.specs.Standing.{Standing}
+use Rattle.plate.specs.Tree.{Grown}
 use Rattle.plate.proofs.Tree.{grow}
 use Rattle.plate.proofs.Views.{column-plate}
 use Rattle.parse.specs.Parse.{Parsed, ParsedWork, compared, early, late, parse, plate, readOf, sameBytes}
@@ -24,7 +28,7 @@ use Rattle.parse.specs.Steps.{outcome}
 use Rattle.parse.proofs.Sound.{parse-plate}
 use Rattle.fields.specs.Fields.{plateIn}
 use Rattle.fields.proofs.Standing.{standing-here, standing-plate}
-use Rattle.record.specs.Found.{FoundIs, ahead, behind, stands, Clearable, clearedBy, numberOf, unspeltOf}
+use Rattle.readtree.specs.Found.{FoundIs, ahead, behind, stands, Clearable, clearedBy, numberOf, unspeltOf}
 
 -- ---- the work space
 
@@ -34,11 +38,17 @@ cleared {n} f e = e ∙ ap (λ (t : List ℕ). replicate (8 * n) 0 ++ t) (f .tai
 
 -- ---- a record that is no plate's
 
-pub unspelt-found : (s : List ℕ) (P : Parsed) {w w′ : List ℕ} {p : Parse} {r : Found} → p ≡ outcome P → ParsedWork P w w′
-    → ((a b c : ℕ) → p ≡ Parse.Plate a b c → ⊥) → r ≡ unspeltOf p → FoundIs (compared s P) w w′ r
+-- the tags of the answers that are no plate
+abbrev pub NoPlate : Parse → Type 0
+NoPlate p = OneOf (0 ∷ 1 ∷ []) (tagOf the-type p)
+
+pub unspelt-found : (s : List ℕ) (P : Parsed) {w w′ : List ℕ} {p : Parse} {r : Found} → p ≡ outcome P → ParsedWork P w w′ → NoPlate p
+    → r ≡ unspeltOf p → FoundIs (compared s P) w w′ r
 unspelt-found s (early number) e x other is = rw (x, is, e) ahead
 unspelt-found s (late number pixels) e x other is = rw (is, e) (behind (x .0) (x .1))
-unspelt-found s (plate k w h f) e x other is = absurd (other w h k e)
+unspelt-found s (plate k w h f) e x other is =
+    let m : (_≡_ {A = ℕ} 2 0) ⊎ (_≡_ {A = ℕ} 2 1) = rw e at other in
+    absurd (⊎-elim (λ z. omega arith) (λ z. omega arith) m)
 
 -- ---- a plate
 
@@ -71,52 +81,52 @@ spelt s {work} (plate k w h f) q e x is =
     })
 
 module _ {s work w₁ : List ℕ} {wd ht k : ℕ} (sp : Spelt s work w₁ wd ht k) where
-  spelt-sizes : Sizes wd ht
-  spelt-sizes = grid-sizes wd ht (sp .accepted .sizes)
-
   -- the product of the sizes fits
   pub spelt-few : wd * ht ≤ 16777216
-  spelt-few = spelt-sizes .few-pixels
+  spelt-few = grid-sizes wd ht (sp .accepted .sizes) .few-pixels
 
-  -- the tree can be built
-  pub spelt-buildable : (n : ℕ) → n ≡ wd * ht → Buildable k wd ht n w₁
-  spelt-buildable n e = rw e (record {
-    room = frame-room (sp .room) (sp .frame);
-    kind = sp .accepted .kind;
-    sizes = sp .accepted .sizes;
-    pixels = refl;
-    greys = λ p l. omega (arith, sp .greys p l, sp .accepted .greys p (omega (arith, sp .accepted .long)));
-  })
+  module _ {n : ℕ} (e : n ≡ wd * ht) where
+    long : length (sp .f) ≡ n
+    long = sp .accepted .long ∙ sym e
 
-  -- and then stands
-  pub spelt-standing : {w₂ : List ℕ} {count : ℕ} → Built k wd (wd * ht) w₁ w₂ count → Standing k wd ht (sp .f) w₂ count
-  spelt-standing {w₂} {count} b =
-      let long : length (sp .f) ≡ wd * ht = sp .accepted .long in
-      let same : col GREY (wd * ht) w₂ ≡ grey (sp .f) = b .same ∙ column-plate GREY (wd * ht) w₁ (sp .f) long (sp .greys) in
-      rw long (record {
-        plate = sp .accepted;
-        room = frame-room (frame-room (sp .room) (sp .frame)) (b .frame);
-        same = same;
-        grown = grow (spelt-buildable (wd * ht) refl) b;
-      })
+    -- the tree can be built
+    pub spelt-buildable : Buildable k wd ht n w₁
+    spelt-buildable = rw e (record {
+      room = frame-room (sp .room) (sp .frame);
+      kind = sp .accepted .kind;
+      sizes = sp .accepted .sizes;
+      pixels = refl;
+      greys = λ p l. omega (arith, sp .greys p l, sp .accepted .greys p (omega (arith, sp .accepted .long)));
+    })
 
-  -- 24
-  pub found-different : {w₂ : List ℕ} {count n : ℕ} → n ≡ wd * ht → Built k wd (wd * ht) w₁ w₂ count
-      → sameBytes s (recordOf k wd ht (plateIn n w₂)) ≡ false → FoundIs (readOf s (length work)) work w₂ (Late 24 n)
-  unfolding readOf
-  found-different {w₂} {count} {n} e b differs =
-      let st : Standing k wd ht (sp .f) w₂ count = spelt-standing b in
-      let plain : plateIn n w₂ ≡ sp .f = standing-plate st n (e ∙ sym (sp .accepted .long)) in
-      rw (sp .parsed, rw plain at differs, e) (behind (sp .room) (frame-trans (sp .frame) (b .frame)))
+    module _ {w₂ : List ℕ} {count : ℕ} (b : Built k wd n w₁ w₂ count) where
+      -- and then stands
+      pub spelt-standing : Standing k wd ht (sp .f) w₂ count
+      spelt-standing =
+          let greys : (p : ℕ) → p < n → col GREY n w₁ p ≡ grey (sp .f) p = rw e (sp .greys) in
+          let room : Room w₂ n = frame-room (spelt-buildable .room) (b .frame) in
+          let same : col GREY n w₂ ≡ grey (sp .f) = b .same ∙ column-plate GREY n w₁ (sp .f) long greys in
+          let grown : Grown k wd n w₂ count = grow spelt-buildable b in
+          record { plate = sp .accepted; room = rw long room; same = rw long same; grown = rw long grown }
 
-  -- a plate's record
-  pub found-tree : {w₂ : List ℕ} {count n : ℕ} → n ≡ wd * ht → Built k wd (wd * ht) w₁ w₂ count
-      → sameBytes s (recordOf k wd ht (plateIn n w₂)) ≡ true → FoundIs (readOf s (length work)) work w₂ (Tree wd ht k count)
-  unfolding readOf
-  found-tree {w₂} {count} {n} e b same =
-      let st : Standing k wd ht (sp .f) w₂ count = spelt-standing b in
-      let plain : plateIn n w₂ ≡ sp .f = standing-plate st n (e ∙ sym (sp .accepted .long)) in
-      rw (sp .parsed, rw plain at same) (stands (frame-trans (sp .frame) (b .frame)) st)
+      pub spelt-here : Standing k wd ht (plateIn n w₂) w₂ count
+      spelt-here = standing-here spelt-standing n (sym long)
+
+      plain : plateIn n w₂ ≡ sp .f
+      plain = standing-plate spelt-standing n (sym long)
+
+      whole : Frame (wd * ht) work w₂
+      whole = frame-trans (sp .frame) (rw (← e) (b .frame))
+
+      -- 24
+      pub found-different : sameBytes s (recordOf k wd ht (plateIn n w₂)) ≡ false → FoundIs (readOf s (length work)) work w₂ (Late 24 n)
+      unfolding readOf
+      found-different differs = rw (sp .parsed, rw plain at differs, e) (behind (sp .room) whole)
+
+      -- a plate's record
+      pub found-tree : sameBytes s (recordOf k wd ht (plateIn n w₂)) ≡ true → FoundIs (readOf s (length work)) work w₂ (Tree wd ht k count)
+      unfolding readOf
+      found-tree same = rw (sp .parsed, rw plain at same) (stands whole spelt-standing)
 
 -- ---- giving up, and going on
 
@@ -125,12 +135,19 @@ found-clearable ahead = tt
 found-clearable (behind r f) = frame-room r f
 found-clearable (stands f st) = tt
 
--- what an operation that gives up knows: the refusal's number, and the work space as `parsedWork` has it
--- (cases on FoundIs as above; `behind` uses `cleared`; `stands` is excluded by "t is no Tree")
-
 -- what an operation that goes on knows
 pub record TreeFound (P : Parsed) (wd ht k : ℕ) (w w′ : List ℕ) (count : ℕ) : Type 0 where
   pub f : List ℕ
   pub is : P ≡ plate k wd ht f
   pub frame : Frame (wd * ht) w w′
   pub standing : Standing k wd ht f w′ count
+
+same-tree : {a b c d k w h m : ℕ} → _≡_ {A = Found} (Tree w h k m) (Tree a b c d) → (w ≡ a) × (h ≡ b) × (k ≡ c) × (m ≡ d)
+same-tree e = (cc, cc, cc, cc)
+
+pub tree-found : {P : Parsed} {w w′ : List ℕ} {t : Found} {wd ht k count : ℕ} → FoundIs P w w′ t → t ≡ Tree wd ht k count → TreeFound P wd ht k w w′ count
+tree-found ahead e = absurd (let y : _≡_ {A = ℕ} 0 1 = cc in omega arith)
+tree-found (behind r f) e = absurd (let y : _≡_ {A = ℕ} 0 1 = cc in omega arith)
+tree-found (stands fr st) e =
+    let same = same-tree e in
+    rw (← (same .0), ← (same .1), ← (same .2), ← (same .3)) (record { f = _; is = refl; frame = fr; standing = st })

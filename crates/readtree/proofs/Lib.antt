@@ -1,0 +1,2 @@
+-- From what parsing finds to the tree in the work space.
+pub mod Finding

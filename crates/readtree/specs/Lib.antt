@@ -1,0 +1,2 @@
+-- What reading a record up to 24 finds and leaves in the work space.
+pub mod Found

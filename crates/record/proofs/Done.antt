@@ -1,0 +1,118 @@
+-- The operations that read a record, where nothing is refused: the tree of its plate stands in the work space.
+use mathlib.Core.Path.{_≡_, refl, sym, ap, subst, _∙_}
+use mathlib.Core.Bool.{Bool, true, false, not, _&&_, _||_}
+use mathlib.Core.List.{List, _++_}
+use Prim.Native.Nat.{ℕ, _-_, _*_, _≤_, _<_}
+use native.Mathlib.Omega.{arith}
+use lib.Dec.{T, eqb, leb, ltb, leb→le}
+use lib.ListN.{length, drop, replicate}
+use borrow.Author.Tests.{le-ltb, ltb-false, not-false}
+use Rattle.meaning.specs.Answers.{outRefusal, over, refuse}
+use Rattle.meaning.specs.Cut.{darkest}
+use Rattle.meaning.specs.Nodes.{anchors, nodesOf}
+use Rattle.meaning.specs.Plate.{greatestGrey, touch}
+use Rattle.columns.specs.Columns.{Room}
+use Rattle.columns.specs.Layout.{Greys}
+use Rattle.columns.proofs.Columns.{frame-trans}
+use Rattle.connectivity.proofs.Tests.{tests}
+use Rattle.checks.proofs.Refusals.{refuse-none}
+use Rattle.checks.proofs.Sizes.{grid-sizes, true-T}
+use Rattle.plate.specs.Standing.{Standing}
+use Rattle.parse.specs.Parse.{Parsed}
+use Rattle.fields.specs.Fields.{plateIn}
+use Rattle.fields.proofs.Standing.{standing-plate}
+use Rattle.cuts.specs.Standing.{CutWritten, OfPlate, SizesWritten, Stands, TablesFit}
+use Rattle.readtree.specs.Found.{GreysStand}
+use Rattle.readtree.proofs.Finding.{TreeFound, cleared}
+use Rattle.record.specs.declared.Head.{Head}
+use Rattle.record.specs.declared.SizeHead.{SizeHead}
+use Rattle.record.specs.Reading.{CutRecord, ListedSizes, ReadRecord}
+
+-- neither of two tests passes
+neither : (a b : Bool) → (a || b) ≡ false → (a ≡ false) × (b ≡ false)
+neither true b e = let f : true ≡ false = e in absurd (subst T f tt)
+neither false b e = (refl, e)
+
+module _ {P : Parsed} {wd ht k count : ℕ} {work w₁ : List ℕ} (t : TreeFound P wd ht k work w₁ count) where
+  long : length (t .f) ≡ wd * ht
+  long = t .standing .plate .long
+
+  -- the pixels
+  pub tree-some : 1 ≤ wd * ht
+  tree-some = grid-sizes wd ht (t .standing .plate .sizes) .some-pixels
+
+  pub tree-few : wd * ht ≤ 16777216
+  tree-few = grid-sizes wd ht (t .standing .plate .sizes) .few-pixels
+
+  pub tree-room : Room w₁ (wd * ht)
+  tree-room = rw (← long) (t .standing .room)
+
+  pub tree-stands : Stands (wd * ht) w₁ count
+  tree-stands = record { k = k; wd = wd; ht = ht; f = t .f; standing = t .standing; pixels = long }
+
+  -- ---- reading
+
+  pub read-greys : {out : List ℕ} → wd * ht ≤ length out → GreysStand (wd * ht) w₁ out
+  read-greys l = record { room = tree-room; greys = rw (← long) (t .standing .grown .tree .greys); places = l }
+
+  pub read-done : {out out′ w₂ : List ℕ} → wd * ht ≤ length out → out′ ≡ over (plateIn (wd * ht) w₁) out
+      → w₂ ≡ replicate (8 * (wd * ht)) 0 ++ drop (8 * (wd * ht)) w₁
+      → ReadRecord P out out′ work w₂ (record { refusal = 0; width = wd; height = ht; connectivity = k })
+  read-done {out} l e c =
+      let z : ltb (length out) (wd * ht) ≡ false = le-ltb (length out) (wd * ht) l in
+      let plain : plateIn (wd * ht) w₁ ≡ t .f = standing-plate (t .standing) (wd * ht) (sym long) in
+      rw (t .is) (record { answer = rw z; output = rw z (rw plain at e); space = cleared (t .frame) c })
+
+  -- ---- cutting
+
+  module _ {limit r : ℕ} (out : List ℕ) (e : r ≡ refuse (not (leb 1 limit && leb limit (wd * ht))) 4 (outRefusal (wd * ht) (length out) 0)) (z : r ≡ 0) where
+    pub cut-fits : (limit ≤ wd * ht) × (wd * ht ≤ length out)
+    cut-fits =
+        let later : ℕ = outRefusal (wd * ht) (length out) 0 in
+        let fits : Bool = leb 1 limit && leb limit (wd * ht) in
+        let b = refuse-none (not fits) 4 later (omega arith) (sym e ∙ z) in
+        let c = refuse-none (ltb (length out) (wd * ht)) 5 0 (omega arith) (b .1) in
+        let u : T fits = true-T fits (not-false fits (b .0)) in
+        (leb→le limit (wd * ht) (search tests), ltb-false (length out) (wd * ht) (c .0))
+
+    pub cut-done : {out′ w₂ w₃ : List ℕ} → CutWritten limit (wd * ht) count w₁ w₂ out out′
+        → w₃ ≡ replicate (8 * (wd * ht)) 0 ++ drop (8 * (wd * ht)) w₂
+        → CutRecord P limit out out′ work w₃ (record { refusal = 0; width = wd; height = ht; connectivity = k })
+    cut-done d c =
+        let y : refuse (not (leb 1 limit && leb limit (wd * ht))) 4 (outRefusal (wd * ht) (length out) 0) ≡ 0 = sym e ∙ z in
+        rw (t .is) (record {
+          answer = rw y;
+          output = rw y (d .written k wd ht (t .f) (t .standing) long);
+          space = cleared (frame-trans (t .frame) (d .frame)) c;
+        })
+
+  -- ---- the size list
+
+  pub tree-nodes : count ≡ length (nodesOf k wd (t .f))
+  unfolding nodesOf
+  tree-nodes =
+      t .standing .grown .tree .nodes
+      ∙ ap (λ (g : ℕ → ℕ). length (anchors greatestGrey (length (t .f)) (touch k wd) g)) (t .standing .same)
+
+  -- the number of nodes fits
+  pub tree-nodes-few : count ≤ 16777216
+  tree-nodes-few = omega (arith, tree-few, t .standing .grown .few-nodes, long)
+
+  module _ {counted lost : List ℕ} (z : (ltb (length counted) (wd * ht - 1) || ltb (length lost) (wd * ht - 1)) ≡ false) where
+    pub sizes-fit : TablesFit (wd * ht) counted lost
+    sizes-fit =
+        let both = neither (ltb (length counted) (wd * ht - 1)) (ltb (length lost) (wd * ht - 1)) z in
+        record { counts-fit = ltb-false (length counted) (wd * ht - 1) (both .0); losses-fit = ltb-false (length lost) (wd * ht - 1) (both .1) }
+
+    pub sizes-done : {counted′ lost′ w₂ : List ℕ} {d : ℕ} → SizesWritten (wd * ht) count w₁ counted counted′ lost lost′
+        → ((m : ℕ) → OfPlate (wd * ht) w₁ m (λ k wd f. d ≡ darkest f)) → w₂ ≡ replicate (8 * (wd * ht)) 0 ++ drop (8 * (wd * ht)) w₁
+        → ListedSizes P counted counted′ lost lost′ work w₂ (record { refusal = 0; width = wd; height = ht; connectivity = k; nodes = count; darkest = d })
+    sizes-done s d c =
+        let nodes : count ≡ length (nodesOf k wd (t .f)) = tree-nodes in
+        let dark = d count k wd ht (t .f) (t .standing) long in
+        rw (t .is) (record {
+          answer = rw (z, nodes, dark);
+          count-table = rw z (s .counted-is k wd ht (t .f) (t .standing) long);
+          loss-table = rw z (s .lost-is k wd ht (t .f) (t .standing) long);
+          space = cleared (t .frame) c;
+        })

@@ -1,0 +1,4 @@
+-- What the operations on records leave, on each way out.
+pub mod Refused
+pub mod Done
+pub mod Wrote
