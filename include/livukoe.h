@@ -90,6 +90,52 @@ struct livukoe_plate_head {
  * file is always long enough. Refusals 10, 11, 2, 12, 14, 15, 5. */
 struct livukoe_plate_head livukoe_read_pgm(const uint8_t *file, size_t file_length, uint8_t *out, size_t out_length);
 
+/* The record of a plate: its canonical description, by the tree of its nodes and each pixel's own node. */
+
+struct livukoe_record_length {
+    uint32_t refusal;
+    size_t length; /* of the record, in bytes */
+};
+
+/* Writes the record of a plate with its connectivity. 14 bytes for each pixel, and 11 more, are always enough.
+ * Refusals 1, 2, 3, 6, 5. */
+struct livukoe_record_length livukoe_write_record(
+    const uint8_t *image, size_t image_length, uint32_t width, uint32_t height, uint32_t connectivity,
+    uint8_t *out, size_t out_length, uint32_t *work, size_t work_length);
+
+struct livukoe_record_head {
+    uint32_t refusal;
+    uint32_t width;
+    uint32_t height;
+    uint32_t connectivity;
+};
+
+/* Reads a record: `out` gets its plate. Refusals 20, 21, 22 field by field, with 6 behind the node count; 23, 24, 5. */
+struct livukoe_record_head livukoe_read_record(
+    const uint8_t *bytes, size_t bytes_length, uint8_t *out, size_t out_length, uint32_t *work, size_t work_length);
+
+/* Cuts a record at a limit: `out` gets the area opening of its plate, under its connectivity. Refusals as for reading
+ * up to 24, then 4, 5. */
+struct livukoe_record_head livukoe_cut_record(
+    const uint8_t *bytes, size_t bytes_length, uint32_t limit,
+    uint8_t *out, size_t out_length, uint32_t *work, size_t work_length);
+
+struct livukoe_size_head {
+    uint32_t refusal;
+    uint32_t width;
+    uint32_t height;
+    uint32_t connectivity;
+    uint32_t nodes;   /* their number */
+    uint32_t darkest; /* the least grey */
+};
+
+/* The size list (pattern spectrum) of a record: for each area a from 1 to pixels - 1, counts[a - 1] is the number of
+ * nodes of that area, and losses[a - 1] the sum over the pixels of the cut at a minus the cut at a + 1. Refusals as for
+ * reading up to 24, then 5 when either table has fewer than pixels - 1 places. */
+struct livukoe_size_head livukoe_size_list(
+    const uint8_t *bytes, size_t bytes_length, uint32_t *counts, size_t counts_length,
+    uint64_t *losses, size_t losses_length, uint32_t *work, size_t work_length);
+
 /* The ink percentage of a grey: the whole number nearest to (255 - grey) x 100 / 255. Never refuses. */
 uint8_t livukoe_ink_percentage(uint8_t grey);
 

@@ -7,10 +7,16 @@ ghost use Rattle.meaning.specs.Answers.{cleanRefusal, maximaRefusal, outAfter};
 ghost use Rattle.meaning.specs.Opening.{opened, closed};
 ghost use Rattle.meaning.specs.Maxima.{marks};
 ghost use Rattle.filter.specs.Operations.{Answered, NodesListed, columns};
+ghost use Rattle.parse.specs.Parse.{readOf};
+ghost use Rattle.record.specs.Writing.{WrittenRecord};
+ghost use Rattle.record.specs.Reading.{ReadRecord, CutRecord, ListedSizes};
 ghost use Rattle.pgm.specs.File.{readPgm, rasterOf};
 ghost use Rattle.ink.specs.Percentage.{Percentage};
 use filter::NodeList;
 use pgm::PgmRead;
+use record::Head;
+use record::SizeHead;
+use record::Written;
 
 // The area opening of a plate at a limit.
 #[no_mangle]
@@ -117,4 +123,53 @@ pub extern "C" fn livukoe_ink_percentage(grey: u8) -> u8
     ensures { λ r. ⌜ Percentage grey r ⌝ }
 {
     ink::ink_percentage(grey)
+}
+
+// Writes the record of a plate with its connectivity.
+#[no_mangle]
+pub extern "C" fn livukoe_write_record(
+    image: &[u8],
+    width: u32,
+    height: u32,
+    connectivity: u32,
+    out: &mut [u8],
+    work: &mut [u32],
+) -> Written
+    ensures { λ r. ⌜ WrittenRecord connectivity width height (now (image .entry)) (now (out .entry)) (now (out .exit)) (now (work .entry)) (now (work .exit)) r ⌝ }
+{
+    record::write_record(image, width, height, connectivity, out, work)
+}
+
+// Reads a record: its plate.
+#[no_mangle]
+pub extern "C" fn livukoe_read_record(bytes: &[u8], out: &mut [u8], work: &mut [u32]) -> Head
+    ensures { λ r. ⌜ ReadRecord (readOf (now (bytes .entry)) (length (now (work .entry)))) (now (out .entry)) (now (out .exit)) (now (work .entry)) (now (work .exit)) r ⌝ }
+{
+    record::read_record(bytes, out, work)
+}
+
+// Cuts a record at a limit.
+#[no_mangle]
+pub extern "C" fn livukoe_cut_record(
+    bytes: &[u8],
+    limit: u32,
+    out: &mut [u8],
+    work: &mut [u32],
+) -> Head
+    ensures { λ r. ⌜ CutRecord (readOf (now (bytes .entry)) (length (now (work .entry)))) limit (now (out .entry)) (now (out .exit)) (now (work .entry)) (now (work .exit)) r ⌝ }
+{
+    record::cut_record(bytes, limit, out, work)
+}
+
+// Lists the sizes of a record's nodes: by area, their number and the grey lost.
+#[no_mangle]
+pub extern "C" fn livukoe_size_list(
+    bytes: &[u8],
+    counts: &mut [u32],
+    losses: &mut [u64],
+    work: &mut [u32],
+) -> SizeHead
+    ensures { λ r. ⌜ ListedSizes (readOf (now (bytes .entry)) (length (now (work .entry)))) (now (counts .entry)) (now (counts .exit)) (now (losses .entry)) (now (losses .exit)) (now (work .entry)) (now (work .exit)) r ⌝ }
+{
+    record::size_list(bytes, counts, losses, work)
 }

@@ -103,6 +103,37 @@ static void check_file(void)
     free(out);
 }
 
+static void check_record(void)
+{
+    const uint8_t record[27] = {4, 3, 4, 4, 10, 12, 1, 20, 2, 1, 20, 1, 3, 80,
+                                1, 0, 0, 0, 0,  0,  2, 1,  0, 0, 0,  0, 3};
+    const uint8_t cut[PIXELS] = {10, 10, 10, 10, 10, 30, 30, 10, 10, 10, 10, 10};
+    uint8_t *bytes = filled(27), *out = filled(PIXELS);
+    uint32_t *work = filled(WORK * sizeof *work), *counts = filled(11 * sizeof *counts);
+    uint64_t *losses = filled(11 * sizeof *losses);
+    struct livukoe_record_length written =
+        livukoe_write_record(SMALL, PIXELS, WIDTH, HEIGHT, 4, bytes, 26, work, WORK);
+    EXPECT(written.refusal == LIVUKOE_OUTPUT_SHORT && written.length == 0 && all(bytes, 77, 27));
+    written = livukoe_write_record(SMALL, PIXELS, WIDTH, HEIGHT, 4, bytes, 27, work, WORK);
+    EXPECT(written.refusal == 0 && written.length == 27 && memcmp(bytes, record, 27) == 0);
+    struct livukoe_record_head head = livukoe_read_record(bytes, 27, out, PIXELS, work, WORK);
+    EXPECT(head.refusal == 0 && head.width == WIDTH && head.height == HEIGHT && head.connectivity == 4);
+    EXPECT(memcmp(out, SMALL, PIXELS) == 0);
+    head = livukoe_cut_record(bytes, 27, 2, out, PIXELS, work, WORK);
+    EXPECT(head.refusal == 0 && memcmp(out, cut, PIXELS) == 0);
+    head = livukoe_cut_record(bytes, 26, 2, out, PIXELS, work, WORK);
+    EXPECT(head.refusal == LIVUKOE_FIELD_UNENDED && head.width == 0);
+    struct livukoe_size_head sizes = livukoe_size_list(bytes, 27, counts, 11, losses, 11, work, WORK);
+    EXPECT(sizes.refusal == 0 && sizes.nodes == 4 && sizes.darkest == 10 && sizes.connectivity == 4);
+    EXPECT(counts[0] == 2 && losses[0] == 100 && counts[1] == 1 && losses[1] == 40);
+    EXPECT(all(counts + 2, 0, 9 * sizeof *counts) && all(losses + 2, 0, 9 * sizeof *losses));
+    free(bytes);
+    free(out);
+    free(work);
+    free(counts);
+    free(losses);
+}
+
 /* Every operation on a plate of chance, large enough for each column to be a block of memory of its own. */
 static void check_noise(uint32_t connectivity)
 {
@@ -119,6 +150,14 @@ static void check_noise(uint32_t connectivity)
     EXPECT(memcmp(out, again, MANY) == 0);
     EXPECT(livukoe_area_close(image, MANY, SIDE, SIDE, connectivity, 9, out, MANY, work, 8 * MANY) == 0);
     EXPECT(livukoe_regional_maxima(image, MANY, SIDE, SIDE, connectivity, out, MANY, work, 8 * MANY) == 0);
+    uint8_t *bytes = filled(11 + 14 * MANY);
+    struct livukoe_record_length written =
+        livukoe_write_record(image, MANY, SIDE, SIDE, connectivity, bytes, 11 + 14 * MANY, work, 8 * MANY);
+    EXPECT(written.refusal == 0);
+    EXPECT(livukoe_read_record(bytes, written.length, out, MANY, work, 8 * MANY).refusal == 0);
+    EXPECT(memcmp(out, image, MANY) == 0);
+    EXPECT(livukoe_read_record(bytes, written.length - 1, out, MANY, work, 8 * MANY).refusal != 0);
+    free(bytes);
     free(image);
     free(out);
     free(again);
@@ -130,6 +169,7 @@ int main(void)
     check_cleaning();
     check_maxima_and_nodes();
     check_file();
+    check_record();
     check_noise(4);
     check_noise(8);
     return failures != 0;
