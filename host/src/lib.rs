@@ -21,6 +21,7 @@
 mod connectivity;
 pub mod lent;
 mod nodes;
+pub mod pictures;
 mod plate;
 mod record;
 mod refusal;

@@ -2,18 +2,12 @@
 //! the record, the totals of the size list, areas about 65,536.
 
 mod common;
-#[path = "../benches/peers/images.rs"]
-mod images;
 
 use common::Chance;
+use livukoe::pictures::{self, picture};
 use livukoe::{Connectivity, Plate};
 
 const BOTH: [Connectivity; 2] = [Connectivity::Four, Connectivity::Eight];
-
-fn picture(kind: &str, width: u32, height: u32) -> Plate {
-    let greys = images::image(kind, width as usize, height as usize);
-    Plate::new(width, height, greys)
-}
 
 fn total(plate: &Plate) -> u64 {
     plate.greys().iter().map(|&grey| u64::from(grey)).sum()
@@ -93,7 +87,7 @@ fn check_nodes(plate: &Plate, connectivity: Connectivity) {
 
 #[test]
 fn every_kind_of_picture() {
-    for kind in images::KINDS {
+    for kind in pictures::KINDS {
         for connectivity in BOTH {
             let plate = picture(kind, 700, 500);
             for limit in [1, 2, 64, 65_536, 350_000] {

@@ -1,4 +1,4 @@
-mod images;
+use livukoe::pictures;
 mod twin;
 use livukoe::lent::{self, Image};
 
@@ -25,13 +25,14 @@ fn main() {
         .unwrap_or(3);
     let only = std::env::var("KIND").ok();
     for connectivity in [4, 8] {
-        for kind in images::KINDS {
+        for kind in pictures::KINDS {
             if only.as_deref().is_some_and(|o| o != kind) {
                 continue;
             }
-            let greys = images::image(kind, side, side);
+            let plate = pictures::picture(kind, side as u32, side as u32);
+            let greys = plate.greys();
             let image = Image {
-                greys: &greys,
+                greys,
                 width: side as u32,
                 height: side as u32,
                 connectivity,
