@@ -1,59 +1,80 @@
-use livukoe::pictures;
-mod twin;
-use livukoe::lent::{self, Image};
+//! The benchmarks: each operation, proved and in plain Rust, on six pictures of growing sizes, and area opening and the
+//! tree by ITK and scikit-image where they are installed. Writes docs/BENCHMARKS.md and docs/benchmarks.svg.
+//!
+//!     cargo bench --bench peers -- [--pixels N] [--peer-pixels N] [--out DIRECTORY]
+//!
+//! The numbers are the greatest sizes, for all and for the peers.
 
-#[repr(C)]
-struct Ts {
-    s: i64,
-    n: i64,
+mod clock;
+mod measure;
+mod operations;
+mod peers;
+mod plot;
+mod report;
+mod twin;
+mod twin_records;
+
+use std::fs;
+use std::path::PathBuf;
+
+use livukoe::pictures::{self, picture};
+use livukoe::Connectivity;
+
+use measure::Timing;
+use peers::{PeerTiming, Peers};
+
+/// The sides of the square pictures, from 64 K to 16 M pixels.
+const SIDES: [u32; 5] = [256, 512, 1024, 2048, 4096];
+
+struct Arguments {
+    pixels: usize,
+    peer_pixels: usize,
+    out: PathBuf,
 }
-extern "C" {
-    fn clock_gettime(c: i32, t: *mut Ts) -> i32;
-}
-fn now() -> f64 {
-    let mut t = Ts { s: 0, n: 0 };
-    unsafe { clock_gettime(3, &mut t) };
-    t.s as f64 + t.n as f64 * 1e-9
+
+impl Arguments {
+    fn read() -> Arguments {
+        let mut arguments = Arguments {
+            pixels: livukoe::MAX_PIXELS,
+            peer_pixels: 1 << 22,
+            out: PathBuf::from(concat!(env!("CARGO_MANIFEST_DIR"), "/../docs")),
+        };
+        let mut words = std::env::args().skip(1).filter(|word| word != "--bench");
+        while let Some(name) = words.next() {
+            let value = words.next().expect("each option has a value");
+            match name.as_str() {
+                "--pixels" => arguments.pixels = value.parse().expect("a number of pixels"),
+                "--peer-pixels" => {
+                    arguments.peer_pixels = value.parse().expect("a number of pixels");
+                }
+                "--out" => arguments.out = PathBuf::from(value),
+                _ => panic!("there is no option {name}"),
+            }
+        }
+        arguments
+    }
 }
 
 fn main() {
-    let args: Vec<String> = std::env::args().collect();
-    let side: usize = args.iter().find_map(|a| a.parse().ok()).unwrap_or(4096);
-    let runs: usize = std::env::var("RUNS")
-        .ok()
-        .and_then(|a| a.parse().ok())
-        .unwrap_or(3);
-    let only = std::env::var("KIND").ok();
-    for connectivity in [4, 8] {
+    let arguments = Arguments::read();
+    let peers = Peers::find();
+    let mut timings: Vec<Timing> = Vec::new();
+    let mut peer_timings: Vec<PeerTiming> = Vec::new();
+    let sides = SIDES.into_iter();
+    for side in sides.filter(|side| (side * side) as usize <= arguments.pixels) {
         for kind in pictures::KINDS {
-            if only.as_deref().is_some_and(|o| o != kind) {
-                continue;
+            let plate = picture(kind, side, side);
+            for connectivity in [Connectivity::Four, Connectivity::Eight] {
+                timings.extend(measure::all(kind, &plate, connectivity));
             }
-            let plate = pictures::picture(kind, side as u32, side as u32);
-            let greys = plate.greys();
-            let image = Image {
-                greys,
-                width: side as u32,
-                height: side as u32,
-                connectivity,
-            };
-            let mut out = vec![0u8; greys.len()];
-            let mut out2 = vec![0u8; greys.len()];
-            let mut work = vec![1u32; 8 * greys.len()];
-            let (mut a, mut b, mut c) = (f64::MAX, f64::MAX, f64::MAX);
-            for _ in 0..runs {
-                let t = now();
-                assert_eq!(lent::area_open(image, 64, &mut out, &mut work), 0);
-                a = a.min(now() - t);
-                let t = now();
-                twin::area_open::<true>(image, 64, &mut out2, &mut work);
-                b = b.min(now() - t);
-                let t = now();
-                twin::area_open::<false>(image, 64, &mut out2, &mut work);
-                c = c.min(now() - t);
+            if plate.greys().len() <= arguments.peer_pixels {
+                peer_timings.extend(peers.all(kind, &plate));
             }
-            assert!(out == out2);
-            println!("{connectivity} {kind:13} proved {a:.3} s {:.1} ns/px, plain {b:.3} s, ratio {:.2}; unchecked {c:.3} s, ratio {:.2}", a * 1e9 / greys.len() as f64, a / b, a / c);
+            eprintln!("{kind}, {side} x {side}: done");
         }
     }
+    let text = report::text(&timings, &peer_timings);
+    let picture = plot::svg(&timings, &peer_timings);
+    fs::write(arguments.out.join("BENCHMARKS.md"), text).expect("the report is written");
+    fs::write(arguments.out.join("benchmarks.svg"), picture).expect("the plot is written");
 }

@@ -3,12 +3,12 @@
 
 use std::ops::{Index, IndexMut};
 
-use livukoe::lent::Image;
+use livukoe::lent::{Image, NodeColumns};
 
 const LEVELS: usize = 256;
 
 /// Numbers, by a checked index or not.
-struct Cells<T, const CHECKED: bool>(T);
+pub struct Cells<T, const CHECKED: bool>(pub T);
 
 impl<T: AsRef<[u32]>, const CHECKED: bool> Index<usize> for Cells<T, CHECKED> {
     type Output = u32;
@@ -36,27 +36,27 @@ impl<T: AsRef<[u32]> + AsMut<[u32]>, const CHECKED: bool> IndexMut<usize> for Ce
     }
 }
 
-type Column<'a, const CHECKED: bool> = Cells<&'a mut [u32], CHECKED>;
+pub type Column<'a, const CHECKED: bool> = Cells<&'a mut [u32], CHECKED>;
 type Table<const CHECKED: bool> = Cells<[u32; LEVELS], CHECKED>;
 
 /// The columns of the work space. Some have a second use once the first is over.
-struct Columns<'a, const CHECKED: bool> {
-    grey: Column<'a, CHECKED>,
-    own: Column<'a, CHECKED>,
+pub struct Columns<'a, const CHECKED: bool> {
+    pub grey: Column<'a, CHECKED>,
+    pub own: Column<'a, CHECKED>,
     /// The pixels to visit by level; then each node's anchor.
-    stack: Column<'a, CHECKED>,
+    pub stack: Column<'a, CHECKED>,
     /// The parent by node in the order of flooding; then each node's level.
-    flood_parent: Column<'a, CHECKED>,
+    pub flood_parent: Column<'a, CHECKED>,
     /// The area by node in the order of flooding; then each node's value.
-    flood_area: Column<'a, CHECKED>,
+    pub flood_area: Column<'a, CHECKED>,
     /// The first pixel by node in the order of flooding; then each node's parent.
-    first: Column<'a, CHECKED>,
-    number: Column<'a, CHECKED>,
-    area: Column<'a, CHECKED>,
+    pub first: Column<'a, CHECKED>,
+    pub number: Column<'a, CHECKED>,
+    pub area: Column<'a, CHECKED>,
 }
 
 impl<'a, const CHECKED: bool> Columns<'a, CHECKED> {
-    fn of(work: &'a mut [u32], pixels: usize) -> Columns<'a, CHECKED> {
+    pub fn of(work: &'a mut [u32], pixels: usize) -> Columns<'a, CHECKED> {
         let mut columns = work.chunks_exact_mut(pixels);
         let mut next = || Cells(columns.next().expect("eight columns"));
         Columns {
@@ -371,10 +371,16 @@ fn describe<const CHECKED: bool>(columns: &mut Columns<CHECKED>, count: usize) {
     }
 }
 
-/// The component tree of a plate in the work space; the number of nodes.
-fn build<const CHECKED: bool>(image: Image, negated: bool, work: &mut [u32]) -> usize {
+/// The component tree of the greys in the work space; the number of nodes.
+pub fn build<const CHECKED: bool>(
+    work: &mut [u32],
+    width: u32,
+    height: u32,
+    connectivity: u32,
+) -> usize {
+    let pixels = width as usize * height as usize;
     let mut flood = Flood::<CHECKED> {
-        columns: Columns::of(work, image.greys.len()),
+        columns: Columns::of(work, pixels),
         levels: Levels {
             count: Cells([0; LEVELS]),
             node: Cells([0; LEVELS]),
@@ -383,24 +389,38 @@ fn build<const CHECKED: bool>(image: Image, negated: bool, work: &mut [u32]) -> 
             below: Cells([0; LEVELS]),
             nodes: 0,
         },
-        width: image.width as usize,
-        height: image.height as usize,
+        width: width as usize,
+        height: height as usize,
     };
-    for (copy, &grey) in flood.columns.grey.0.iter_mut().zip(image.greys) {
-        *copy = u32::from(if negated { 255 - grey } else { grey });
-    }
-    flood.flood(image.connectivity);
+    flood.flood(connectivity);
     number(&mut flood.columns)
 }
 
-/// Writes the value of each pixel's own node, and sets the work space to zero.
-fn deliver<const CHECKED: bool>(work: &mut [u32], pixels: usize, negated: bool, out: &mut [u8]) {
+/// The component tree of a plate, or of its negative; the number of nodes.
+pub fn plate_tree<const CHECKED: bool>(image: Image, negated: bool, work: &mut [u32]) -> usize {
+    for (copy, &grey) in work.iter_mut().zip(image.greys) {
+        *copy = u32::from(if negated { 255 - grey } else { grey });
+    }
+    build::<CHECKED>(work, image.width, image.height, image.connectivity)
+}
+
+/// Sets the work space to zero.
+pub fn clear(work: &mut [u32], pixels: usize) {
+    work[..8 * pixels].fill(0);
+}
+
+/// Writes the value of each pixel's own node, or its negative.
+pub fn write_values<const CHECKED: bool>(
+    work: &mut [u32],
+    pixels: usize,
+    negated: bool,
+    out: &mut [u8],
+) {
     let columns = Columns::<CHECKED>::of(work, pixels);
     for (out, &own) in out.iter_mut().zip(columns.own.0.iter()) {
         let value = columns.flood_area[own as usize] as u8;
         *out = if negated { 255 - value } else { value };
     }
-    work[..8 * pixels].fill(0);
 }
 
 fn clean<const CHECKED: bool>(
@@ -411,7 +431,7 @@ fn clean<const CHECKED: bool>(
     work: &mut [u32],
 ) {
     let pixels = image.greys.len();
-    let count = build::<CHECKED>(image, negated, work);
+    let count = plate_tree::<CHECKED>(image, negated, work);
     let mut columns = Columns::<CHECKED>::of(work, pixels);
     for v in 0..count {
         columns.flood_area[v] = if limit <= columns.area[v] {
@@ -420,7 +440,8 @@ fn clean<const CHECKED: bool>(
             columns.flood_area[columns.first[v] as usize]
         };
     }
-    deliver::<CHECKED>(work, pixels, negated, out);
+    write_values::<CHECKED>(work, pixels, negated, out);
+    clear(work, pixels);
 }
 
 pub fn area_open<const CHECKED: bool>(image: Image, limit: u32, out: &mut [u8], work: &mut [u32]) {
@@ -433,11 +454,24 @@ pub fn area_close<const CHECKED: bool>(image: Image, limit: u32, out: &mut [u8],
 
 pub fn regional_maxima<const CHECKED: bool>(image: Image, out: &mut [u8], work: &mut [u32]) {
     let pixels = image.greys.len();
-    let count = build::<CHECKED>(image, false, work);
+    let count = plate_tree::<CHECKED>(image, false, work);
     let mut columns = Columns::<CHECKED>::of(work, pixels);
     columns.flood_area.0[..count].fill(1);
     for v in 1..count {
         columns.flood_area[columns.first[v] as usize] = 0;
     }
-    deliver::<CHECKED>(work, pixels, false, out);
+    write_values::<CHECKED>(work, pixels, false, out);
+    clear(work, pixels);
+}
+
+pub fn node_list<const CHECKED: bool>(image: Image, out: NodeColumns, work: &mut [u32]) -> usize {
+    let pixels = image.greys.len();
+    let count = plate_tree::<CHECKED>(image, false, work);
+    let columns = Columns::<CHECKED>::of(work, pixels);
+    out.levels[..count].copy_from_slice(&columns.flood_parent.0[..count]);
+    out.parents[..count].copy_from_slice(&columns.first.0[..count]);
+    out.areas[..count].copy_from_slice(&columns.area.0[..count]);
+    out.anchors[..count].copy_from_slice(&columns.stack.0[..count]);
+    clear(work, pixels);
+    count
 }
