@@ -1,15 +1,8 @@
-//! Reads a plate file from standard input, takes away light patches of fewer than 20 pixels, and writes a plate file.
-
-use std::io::{self, Read, Write};
-
 use livukoe::{Connectivity, Plate};
 
-fn main() -> Result<(), Box<dyn std::error::Error>> {
-    let mut file = Vec::new();
-    io::stdin().read_to_end(&mut file)?;
-    let plate = Plate::from_pgm(&file)?;
-    let clean = plate.area_open(Connectivity::Four, 20)?;
-    io::stdout().write_all(clean.pgm_header().as_bytes())?;
-    io::stdout().write_all(clean.greys())?;
+fn main() -> Result<(), livukoe::Refusal> {
+    let plate = Plate::new(4, 3, vec![10, 10, 10, 10, 10, 50, 30, 10, 10, 10, 10, 90]);
+    let clean = plate.area_open(Connectivity::Four, 2)?;
+    println!("pixel 5: {}", clean.greys()[5]);
     Ok(())
 }

@@ -8,20 +8,6 @@
 mod c {
     use super::{NodeCount, PlateHead, RecordHead, RecordLength, SizeHead};
 
-    /// `livukoe_area_open` and `livukoe_area_close`.
-    pub type Clean = unsafe extern "C" fn(
-        image: *const u8,
-        image_length: usize,
-        width: u32,
-        height: u32,
-        connectivity: u32,
-        limit: u32,
-        out: *mut u8,
-        out_length: usize,
-        work: *mut u32,
-        work_length: usize,
-    ) -> u32;
-
     extern "C" {
         pub fn livukoe_area_open(
             image: *const u8,
@@ -197,133 +183,75 @@ pub struct NodeColumns<'a> {
     pub anchors: &'a mut [u32],
 }
 
-// Every call below passes the pointers and the lengths of slices that are borrowed for the whole call, the written
-// ones mutably, so that they are valid and do not overlap. The proved functions ask nothing else.
-
-/// Calls a function that opens or closes.
-fn clean(function: c::Clean, image: Image, limit: u32, out: &mut [u8], work: &mut [u32]) -> u32 {
-    // SAFETY: see above
-    unsafe {
-        function(
-            image.greys.as_ptr(),
-            image.greys.len(),
-            image.width,
-            image.height,
-            image.connectivity,
-            limit,
-            out.as_mut_ptr(),
-            out.len(),
-            work.as_mut_ptr(),
-            work.len(),
-        )
-    }
+/// Calls a C function. `read s` and `write s` pass the pointer and the length of a slice, `plate p` what an [`Image`] has,
+/// and any other name itself.
+macro_rules! call {
+    // SAFETY: the slices are borrowed for the whole call, the written ones mutably, so that they are valid and do not
+    // overlap. The proved functions ask nothing else.
+    (@ $function:expr, [$($passed:expr,)*]) => { unsafe { $function($($passed),*) } };
+    (@ $function:expr, [$($passed:expr,)*] read $slice:ident, $($rest:tt)*) => {
+        call!(@ $function, [$($passed,)* $slice.as_ptr(), $slice.len(),] $($rest)*)
+    };
+    (@ $function:expr, [$($passed:expr,)*] write $slice:ident, $($rest:tt)*) => {
+        call!(@ $function, [$($passed,)* $slice.as_mut_ptr(), $slice.len(),] $($rest)*)
+    };
+    (@ $function:expr, [$($passed:expr,)*] plate $image:ident, $($rest:tt)*) => {{
+        let Image { greys, width, height, connectivity } = $image;
+        call!(@ $function, [$($passed,)*] read greys, width, height, connectivity, $($rest)*)
+    }};
+    (@ $function:expr, [$($passed:expr,)*] $value:ident, $($rest:tt)*) => {
+        call!(@ $function, [$($passed,)* $value,] $($rest)*)
+    };
+    ($function:expr, $($rest:tt)*) => { call!(@ $function, [] $($rest)*,) };
 }
 
 /// The area opening of a plate at a limit.
 pub fn area_open(image: Image, limit: u32, out: &mut [u8], work: &mut [u32]) -> u32 {
-    clean(c::livukoe_area_open, image, limit, out, work)
+    call!(c::livukoe_area_open, plate image, limit, write out, write work)
 }
 
 /// The area closing of a plate at a limit.
 pub fn area_close(image: Image, limit: u32, out: &mut [u8], work: &mut [u32]) -> u32 {
-    clean(c::livukoe_area_close, image, limit, out, work)
+    call!(c::livukoe_area_close, plate image, limit, write out, write work)
 }
 
 /// Marks the regional maxima of a plate: 1 inside one, 0 elsewhere.
 pub fn regional_maxima(image: Image, out: &mut [u8], work: &mut [u32]) -> u32 {
-    // SAFETY: see above
-    unsafe {
-        c::livukoe_regional_maxima(
-            image.greys.as_ptr(),
-            image.greys.len(),
-            image.width,
-            image.height,
-            image.connectivity,
-            out.as_mut_ptr(),
-            out.len(),
-            work.as_mut_ptr(),
-            work.len(),
-        )
-    }
+    call!(c::livukoe_regional_maxima, plate image, write out, write work)
 }
 
 /// The nodes of a plate, a column for each of level, parent (0 for the root), area and anchor.
 pub fn node_list(image: Image, columns: NodeColumns, work: &mut [u32]) -> NodeCount {
-    // SAFETY: see above
-    unsafe {
-        c::livukoe_node_list(
-            image.greys.as_ptr(),
-            image.greys.len(),
-            image.width,
-            image.height,
-            image.connectivity,
-            columns.levels.as_mut_ptr(),
-            columns.levels.len(),
-            columns.parents.as_mut_ptr(),
-            columns.parents.len(),
-            columns.areas.as_mut_ptr(),
-            columns.areas.len(),
-            columns.anchors.as_mut_ptr(),
-            columns.anchors.len(),
-            work.as_mut_ptr(),
-            work.len(),
-        )
-    }
+    let NodeColumns {
+        levels,
+        parents,
+        areas,
+        anchors,
+    } = columns;
+    call!(
+        c::livukoe_node_list,
+        plate image, write levels, write parents, write areas, write anchors, write work
+    )
 }
 
 /// Reads a plate file.
 pub fn read_pgm(file: &[u8], out: &mut [u8]) -> PlateHead {
-    // SAFETY: see above
-    unsafe { c::livukoe_read_pgm(file.as_ptr(), file.len(), out.as_mut_ptr(), out.len()) }
+    call!(c::livukoe_read_pgm, read file, write out)
 }
 
 /// Writes the record of a plate with its connectivity.
 pub fn write_record(image: Image, out: &mut [u8], work: &mut [u32]) -> RecordLength {
-    // SAFETY: see above
-    unsafe {
-        c::livukoe_write_record(
-            image.greys.as_ptr(),
-            image.greys.len(),
-            image.width,
-            image.height,
-            image.connectivity,
-            out.as_mut_ptr(),
-            out.len(),
-            work.as_mut_ptr(),
-            work.len(),
-        )
-    }
+    call!(c::livukoe_write_record, plate image, write out, write work)
 }
 
 /// Reads a record: its plate.
 pub fn read_record(bytes: &[u8], out: &mut [u8], work: &mut [u32]) -> RecordHead {
-    // SAFETY: see above
-    unsafe {
-        c::livukoe_read_record(
-            bytes.as_ptr(),
-            bytes.len(),
-            out.as_mut_ptr(),
-            out.len(),
-            work.as_mut_ptr(),
-            work.len(),
-        )
-    }
+    call!(c::livukoe_read_record, read bytes, write out, write work)
 }
 
 /// Cuts a record at a limit.
 pub fn cut_record(bytes: &[u8], limit: u32, out: &mut [u8], work: &mut [u32]) -> RecordHead {
-    // SAFETY: see above
-    unsafe {
-        c::livukoe_cut_record(
-            bytes.as_ptr(),
-            bytes.len(),
-            limit,
-            out.as_mut_ptr(),
-            out.len(),
-            work.as_mut_ptr(),
-            work.len(),
-        )
-    }
+    call!(c::livukoe_cut_record, read bytes, limit, write out, write work)
 }
 
 /// The size list of a record: at place a - 1 the number of nodes of area a, and the grey that is lost at it.
@@ -333,23 +261,10 @@ pub fn size_list(
     losses: &mut [u64],
     work: &mut [u32],
 ) -> SizeHead {
-    // SAFETY: see above
-    unsafe {
-        c::livukoe_size_list(
-            bytes.as_ptr(),
-            bytes.len(),
-            counts.as_mut_ptr(),
-            counts.len(),
-            losses.as_mut_ptr(),
-            losses.len(),
-            work.as_mut_ptr(),
-            work.len(),
-        )
-    }
+    call!(c::livukoe_size_list, read bytes, write counts, write losses, write work)
 }
 
 /// The ink percentage of a grey.
 pub fn ink_percentage(grey: u8) -> u8 {
-    // SAFETY: no pointers
-    unsafe { c::livukoe_ink_percentage(grey) }
+    call!(c::livukoe_ink_percentage, grey)
 }

@@ -49,8 +49,7 @@ fn every_function() {
 fn the_example() {
     let output = run(&compiled("examples/clean.c", "clean"));
     assert_passed(&output);
-    let wanted = "10 10 10 10\n10 30 30 10\n10 10 10 10\n";
-    assert_eq!(String::from_utf8_lossy(&output.stdout), wanted);
+    assert_eq!(output.stdout, b"refusal 0, pixel 5: 30\n");
 }
 
 /// No access beyond a buffer, no use of what was never written, nothing left behind.
@@ -65,4 +64,12 @@ fn under_valgrind() {
         Ok(output) => assert_passed(&output),
         Err(_) => eprintln!("valgrind is not installed: memory is not checked"),
     }
+}
+
+/// The README shows the examples as they stand.
+#[test]
+fn the_readme() {
+    let readme = include_str!("../../README.md");
+    assert!(readme.contains(include_str!("../examples/clean.c")));
+    assert!(readme.contains(include_str!("../examples/clean.rs")));
 }

@@ -23,15 +23,10 @@ fn compare(seed: u64, proved: Proved, reference: Reference, refusals: &[u32]) {
         let mut out = chance.buffer(plate.pixels());
         let mut work = chance.buffer(8 * plate.pixels());
         let (mut out2, mut work2) = (out.clone(), work.clone());
-        let Plate {
-            width,
-            height,
-            connectivity,
-            ref greys,
-        } = plate;
+        let (width, height, connectivity) = plate.numbers();
         let answer = proved(plate.image(), limit, &mut out, &mut work);
         let wanted = reference(
-            greys,
+            &plate.greys,
             width,
             height,
             connectivity,
@@ -127,13 +122,8 @@ fn reference_nodes(
         areas,
         anchors,
     };
-    let Plate {
-        width,
-        height,
-        connectivity,
-        ref greys,
-    } = *plate;
-    let answer = reference::node_list(greys, width, height, connectivity, columns, work);
+    let (width, height, connectivity) = plate.numbers();
+    let answer = reference::node_list(&plate.greys, width, height, connectivity, columns, work);
     for (level, byte) in levels.iter_mut().zip(bytes) {
         *level = u32::from(byte);
     }

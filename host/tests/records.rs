@@ -12,13 +12,15 @@ const SIDE: usize = 5;
 fn record_of(plate: &Plate) -> Vec<u8> {
     let mut out = vec![0; 32 + 16 * plate.pixels()];
     let mut work = vec![0; 8 * plate.pixels()];
-    let Plate {
+    let (width, height, connectivity) = plate.numbers();
+    let answer = reference::write_record(
+        &plate.greys,
         width,
         height,
         connectivity,
-        ref greys,
-    } = *plate;
-    let answer = reference::write_record(greys, width, height, connectivity, &mut out, &mut work);
+        &mut out,
+        &mut work,
+    );
     out.truncate(answer.length);
     out
 }
@@ -31,15 +33,16 @@ fn writing() {
         let mut out = chance.buffer(record_of(&plate).len());
         let mut work = chance.buffer(8 * plate.pixels());
         let (mut out2, mut work2) = (out.clone(), work.clone());
-        let Plate {
+        let (width, height, connectivity) = plate.numbers();
+        let answer = lent::write_record(plate.image(), &mut out, &mut work);
+        let wanted = reference::write_record(
+            &plate.greys,
             width,
             height,
             connectivity,
-            ref greys,
-        } = plate;
-        let answer = lent::write_record(plate.image(), &mut out, &mut work);
-        let wanted =
-            reference::write_record(greys, width, height, connectivity, &mut out2, &mut work2);
+            &mut out2,
+            &mut work2,
+        );
         assert_eq!(
             (answer.refusal, answer.length),
             (wanted.refusal, wanted.length),
@@ -62,19 +65,24 @@ fn damaged(chance: &mut Chance) -> (Vec<u8>, usize) {
     (record, plate.pixels())
 }
 
+/// Compares reading a record into buffers for so many pixels; the refusal.
+fn compare_reading(chance: &mut Chance, record: &[u8], pixels: usize) -> u32 {
+    let mut out = chance.buffer(pixels);
+    let mut work = chance.buffer(8 * pixels);
+    let (mut out2, mut work2) = (out.clone(), work.clone());
+    let answer = lent::read_record(record, &mut out, &mut work);
+    let wanted = reference::read_record(record, &mut out2, &mut work2);
+    assert_same(record, answer, wanted);
+    assert_eq!((out, work), (out2, work2), "{record:?}");
+    answer.refusal
+}
+
 #[test]
 fn reading() {
     let (mut chance, mut seen) = (Chance::new(9), Seen::default());
     for _ in 0..CASES {
         let (record, pixels) = damaged(&mut chance);
-        let mut out = chance.buffer(pixels);
-        let mut work = chance.buffer(8 * pixels);
-        let (mut out2, mut work2) = (out.clone(), work.clone());
-        let answer = lent::read_record(&record, &mut out, &mut work);
-        let wanted = reference::read_record(&record, &mut out2, &mut work2);
-        assert_same(&record, answer, wanted);
-        assert_eq!((out, work), (out2, work2), "{record:?}");
-        seen.note(answer.refusal);
+        seen.note(compare_reading(&mut chance, &record, pixels));
     }
     seen.assert_all(&[0, 5, 6, 20, 21, 22, 23, 24]);
 }
@@ -156,14 +164,7 @@ fn invented_records() {
         for _ in 0..chance.below(16) {
             record.push(chance.pick(&[0, 0, 1, 1, 1, 2, 2, 3, 4, 127, 128, 255]));
         }
-        let mut out = chance.buffer(4);
-        let mut work = chance.buffer(32);
-        let (mut out2, mut work2) = (out.clone(), work.clone());
-        let answer = lent::read_record(&record, &mut out, &mut work);
-        let wanted = reference::read_record(&record, &mut out2, &mut work2);
-        assert_same(&record, answer, wanted);
-        assert_eq!((out, work), (out2, work2), "{record:?}");
-        seen.note(answer.refusal);
+        seen.note(compare_reading(&mut chance, &record, 4));
     }
     seen.assert_all(&[0, 5, 6, 20, 21, 22, 23, 24]);
 }

@@ -1,6 +1,6 @@
 //! Each operation, proved and in plain Rust, over buffers that are allocated once.
 
-use livukoe::lent::{self, Image, NodeColumns};
+use livukoe::lent::{self as proved, Image, NodeColumns};
 use livukoe::{Connectivity, Plate};
 
 use crate::{twin, twin_records};
@@ -71,73 +71,82 @@ impl<'a> Bench<'a> {
     }
 
     fn run_proved(&mut self, operation: &str) {
-        let image = image_of(self.plate, self.connectivity);
-        let Buffers {
-            greys,
-            bytes,
-            columns,
-            losses,
-            work,
-        } = &mut self.buffers;
-        let record = &self.record;
+        let lent = self.parts();
         let refusal = match operation {
-            "open" => lent::area_open(image, LIMIT, greys, work),
-            "close" => lent::area_close(image, LIMIT, greys, work),
-            "maxima" => lent::regional_maxima(image, greys, work),
-            "nodes" => lent::node_list(image, lent_columns(columns), work).refusal,
-            "record" => lent::write_record(image, bytes, work).refusal,
-            "plate" => lent::read_record(record, greys, work).refusal,
-            "cut" => lent::cut_record(record, LIMIT, greys, work).refusal,
-            "sizelist" => lent::size_list(record, &mut columns[0], losses, work).refusal,
+            "open" => proved::area_open(lent.image, LIMIT, lent.greys, lent.work),
+            "close" => proved::area_close(lent.image, LIMIT, lent.greys, lent.work),
+            "maxima" => proved::regional_maxima(lent.image, lent.greys, lent.work),
+            "nodes" => proved::node_list(lent.image, lent.columns, lent.work).refusal,
+            "record" => proved::write_record(lent.image, lent.bytes, lent.work).refusal,
+            "plate" => proved::read_record(lent.record, lent.greys, lent.work).refusal,
+            "cut" => proved::cut_record(lent.record, LIMIT, lent.greys, lent.work).refusal,
+            "sizelist" => {
+                proved::size_list(lent.record, lent.columns.areas, lent.losses, lent.work).refusal
+            }
             _ => panic!("no operation is called {operation}"),
         };
         assert_eq!(refusal, 0, "{operation}");
     }
 
     fn run_twin<const CHECKED: bool>(&mut self, operation: &str) {
-        let image = image_of(self.plate, self.connectivity);
-        let Buffers {
-            greys,
-            bytes,
-            columns,
-            losses,
-            work,
-        } = &mut self.buffers;
-        let record = &self.record;
+        let lent = self.parts();
         match operation {
-            "open" => twin::area_open::<CHECKED>(image, LIMIT, greys, work),
-            "close" => twin::area_close::<CHECKED>(image, LIMIT, greys, work),
-            "maxima" => twin::regional_maxima::<CHECKED>(image, greys, work),
+            "open" => twin::area_open::<CHECKED>(lent.image, LIMIT, lent.greys, lent.work),
+            "close" => twin::area_close::<CHECKED>(lent.image, LIMIT, lent.greys, lent.work),
+            "maxima" => twin::regional_maxima::<CHECKED>(lent.image, lent.greys, lent.work),
             "nodes" => drop(twin::node_list::<CHECKED>(
-                image,
-                lent_columns(columns),
-                work,
+                lent.image,
+                lent.columns,
+                lent.work,
             )),
-            "record" => drop(twin_records::write_record::<CHECKED>(image, bytes, work)),
-            "plate" => twin_records::read_record::<CHECKED>(record, greys, work),
-            "cut" => twin_records::cut_record::<CHECKED>(record, LIMIT, greys, work),
+            "record" => drop(twin_records::write_record::<CHECKED>(
+                lent.image, lent.bytes, lent.work,
+            )),
+            "plate" => twin_records::read_record::<CHECKED>(lent.record, lent.greys, lent.work),
+            "cut" => twin_records::cut_record::<CHECKED>(lent.record, LIMIT, lent.greys, lent.work),
             "sizelist" => {
-                twin_records::size_list::<CHECKED>(record, &mut columns[0], losses, work);
+                twin_records::size_list::<CHECKED>(
+                    lent.record,
+                    lent.columns.areas,
+                    lent.losses,
+                    lent.work,
+                );
             }
             _ => panic!("no operation is called {operation}"),
         }
     }
-}
 
-fn image_of(plate: &Plate, connectivity: Connectivity) -> Image<'_> {
-    Image {
-        greys: plate.greys(),
-        width: plate.width(),
-        height: plate.height(),
-        connectivity: connectivity.number(),
+    /// What an operation is lent.
+    fn parts(&mut self) -> Parts<'_> {
+        let [levels, parents, areas, anchors] = &mut self.buffers.columns;
+        Parts {
+            image: Image {
+                greys: self.plate.greys(),
+                width: self.plate.width(),
+                height: self.plate.height(),
+                connectivity: self.connectivity.number(),
+            },
+            record: &self.record,
+            greys: &mut self.buffers.greys,
+            bytes: &mut self.buffers.bytes,
+            columns: NodeColumns {
+                levels,
+                parents,
+                areas,
+                anchors,
+            },
+            losses: &mut self.buffers.losses,
+            work: &mut self.buffers.work,
+        }
     }
 }
 
-fn lent_columns([levels, parents, areas, anchors]: &mut [Vec<u32>; 4]) -> NodeColumns<'_> {
-    NodeColumns {
-        levels,
-        parents,
-        areas,
-        anchors,
-    }
+struct Parts<'a> {
+    image: Image<'a>,
+    record: &'a [u8],
+    greys: &'a mut [u8],
+    bytes: &'a mut [u8],
+    columns: NodeColumns<'a>,
+    losses: &'a mut [u64],
+    work: &'a mut [u32],
 }

@@ -149,6 +149,11 @@ impl Plate {
         }
     }
 
+    /// Width, height and connectivity.
+    pub fn numbers(&self) -> (u32, u32, u32) {
+        (self.width, self.height, self.connectivity)
+    }
+
     pub fn pixels(&self) -> usize {
         self.greys.len()
     }
