@@ -27,7 +27,7 @@ use Rattle.record.specs.Writing.{writeAnswer, writeOut, writeRefusal}
 use Rattle.demands.specs.Demand3.{CutClaim, Demand3, SizeClaim, cutHead, cutPlate, sizeCounts, sizeHead, sizeLosses, written}
 
 -- what stands in front of the excess
-over-take : (xs out : List ℕ) (n : ℕ) → length xs ≡ n → take n (over xs out) ≡ xs
+pub over-take : (xs out : List ℕ) (n : ℕ) → length xs ≡ n → take n (over xs out) ≡ xs
 over-take xs out n e = take-at xs (drop (length xs) out) n e
 
 pub over-nth : (xs out : List ℕ) (i : ℕ) → i < length xs → nth (over xs out) i ≡ nth xs i
@@ -51,15 +51,15 @@ module _ {k w h : ℕ} {f : List ℕ} (pl : Plate k w h f) where
 
   -- ---- cutting
 
-  cut-zero : (limit : ℕ) → 1 ≤ limit → limit ≤ w * h → (out : List ℕ) → w * h ≤ length out → cutRefusal (plate k w h f) limit (length out) ≡ 0
+  pub cut-zero : (limit : ℕ) → 1 ≤ limit → limit ≤ w * h → (out : List ℕ) → w * h ≤ length out → cutRefusal (plate k w h f) limit (length out) ≡ 0
   cut-zero limit a b out c = rw (le-leb 1 limit a, le-leb limit (w * h) b, le-ltb (length out) (w * h) c)
 
-  cut-length : (limit : ℕ) → length (cut k w limit f) ≡ w * h
+  pub cut-length : (limit : ℕ) → length (cut k w limit f) ≡ w * h
   unfolding cut
   cut-length limit =
       length-table (length f) (cutAt (length f) (touch k w) (grey f) (nodesOf k w f) (atLeast (attribute (length f)) limit)) ∙ pl .long
 
-  cut-plate-is : (limit : ℕ) → 1 ≤ limit → limit ≤ w * h → (out work : List ℕ) → w * h ≤ length out → 8 * (w * h) ≤ length work
+  pub cut-plate-is : (limit : ℕ) → 1 ≤ limit → limit ≤ w * h → (out work : List ℕ) → w * h ≤ length out → 8 * (w * h) ≤ length work
       → cutPlate w h bytes limit out work ≡ cut k w limit f
   unfolding cutPlate
   cut-plate-is limit a b out work c d =
@@ -70,7 +70,7 @@ module _ {k w h : ℕ} {f : List ℕ} (pl : Plate k w h f) where
   unfolding cutHead
   cut-head-is limit a b out work c d = rw (read-there pl (length work) d, cut-zero limit a b out c)
 
-  cut-claim : (limit : ℕ) → 1 ≤ limit → limit ≤ w * h → (out work : List ℕ) → w * h ≤ length out → 8 * (w * h) ≤ length work
+  pub cut-claim : (limit : ℕ) → 1 ≤ limit → limit ≤ w * h → (out work : List ℕ) → w * h ≤ length out → 8 * (w * h) ≤ length work
       → CutClaim k w h f bytes limit out work
   cut-claim limit a b out work c d =
       let fits : limit ≤ length f = omega (arith, pl .long) in
@@ -85,19 +85,19 @@ module _ {k w h : ℕ} {f : List ℕ} (pl : Plate k w h f) where
   -- ---- the size list
 
   module _ (counts′ losses′ work plain : List ℕ) (a : w * h - 1 ≤ length counts′) (b : w * h - 1 ≤ length losses′) (c : 8 * (w * h) ≤ length work) (d : w * h ≤ length plain) where
-    size-zero : sizeRefusal (plate k w h f) (length counts′) (length losses′) ≡ 0
+    pub size-zero : sizeRefusal (plate k w h f) (length counts′) (length losses′) ≡ 0
     size-zero = rw (le-ltb (length counts′) (w * h - 1) a, le-ltb (length losses′) (w * h - 1) b)
 
-    size-head-is : sizeHead bytes counts′ losses′ work
+    pub size-head-is : sizeHead bytes counts′ losses′ work
         ≡ record { refusal = 0; width = w; height = h; connectivity = k; nodes = length (nodesOf k w f); darkest = darkest f }
     unfolding sizeHead
     size-head-is = rw (read-there pl (length work) c, size-zero)
 
-    counts-are : sizeCounts bytes counts′ losses′ work ≡ over (counts k w f) counts′
+    pub counts-are : sizeCounts bytes counts′ losses′ work ≡ over (counts k w f) counts′
     unfolding sizeCounts
     counts-are = rw (read-there pl (length work) c, size-zero)
 
-    losses-are : sizeLosses bytes counts′ losses′ work ≡ over (losses k w f) losses′
+    pub losses-are : sizeLosses bytes counts′ losses′ work ≡ over (losses k w f) losses′
     unfolding sizeLosses
     losses-are = rw (read-there pl (length work) c, size-zero)
 
@@ -126,7 +126,7 @@ module _ {k w h : ℕ} {f : List ℕ} (pl : Plate k w h f) where
         ∙ over-nth (table (length f - 1) g) losses′ i (omega (arith, length-table (length f - 1) g))
         ∙ getD-table (length f - 1) g i 0 m
 
-    size-claim : SizeClaim k w h f bytes counts′ losses′ work plain
+    pub size-claim : SizeClaim k w h f bytes counts′ losses′ work plain
     unfolding countAt areaOf
     size-claim = record {
       accepted = size-head-is;

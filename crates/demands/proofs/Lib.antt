@@ -1,3 +1,4 @@
 -- Demands 2 and 3.
 pub mod Demand3
+pub mod Records
 pub mod Demand2

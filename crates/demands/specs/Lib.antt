@@ -1,3 +1,4 @@
 -- Demands 2 and 3 as statements.
 pub mod Demand2
 pub mod Demand3
+pub mod Records

@@ -30,7 +30,7 @@ module _ (k w h : ℕ) (f out work : List ℕ) {r : ℕ} (e : r ≡ plateRefusal
       let y : eqb r 5 ≡ false = ne-eqb r 5 (λ u. tree-early k w h (length f) (length work) (sym e ∙ u)) in
       let first = tree-first k w h (length f) (length work) (length (recordOf k w h f)) (length out) (λ u. x (e ∙ u)) in
       let is : writeRefusal k w h f out work ≡ r = first ∙ sym e in
-      record { answer = rw (is, z); output = rw (is, z); space = rw (is, z, y) }
+      record { answer = rw (is, z); output = rw (is, z); space = rw (is, z, y); accepted = λ none. absurd (x (sym is ∙ none)) }
 
   module _ (z : r ≡ 0) where
     listable : Listable k w h (length f) (length work)
@@ -75,7 +75,12 @@ module _ (k w h : ℕ) (f out work : List ℕ) {r : ℕ} (e : r ≡ plateRefusal
         unfolding writeAnswer writeOut writeWork
         wrote-short l c =
             let is : writeRefusal k w h f out work ≡ 5 = refusal-is ∙ rw (lt-ltb (length out) (length (recordOf k w h f)) (rw size-is at l)) in
-            record { answer = rw is; output = rw is; space = rw (is, ← (listable .taken .long)) (cleared (p .frame) c) }
+            record {
+              answer = rw is;
+              output = rw is;
+              space = rw (is, ← (listable .taken .long)) (cleared (p .frame) c);
+              accepted = λ none. planted-standing .plate;
+            }
 
         -- the record
         pub wrote-done : {out′ w₂ : List ℕ} → size ≤ length out → out′ ≡ over (recordOf k w h (plateIn (length f) w₁)) out
@@ -83,4 +88,9 @@ module _ (k w h : ℕ) (f out work : List ℕ) {r : ℕ} (e : r ≡ plateRefusal
         unfolding writeAnswer writeOut writeWork
         wrote-done l d c =
             let is : writeRefusal k w h f out work ≡ 0 = refusal-is ∙ rw (le-ltb (length out) (length (recordOf k w h f)) (rw size-is at l)) in
-            record { answer = rw (is, size-is); output = rw is (rw plain at d); space = rw (is, ← (listable .taken .long)) (cleared (p .frame) c) }
+            record {
+              answer = rw (is, size-is);
+              output = rw is (rw plain at d);
+              space = rw (is, ← (listable .taken .long)) (cleared (p .frame) c);
+              accepted = λ none. planted-standing .plate;
+            }

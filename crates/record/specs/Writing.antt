@@ -5,6 +5,7 @@ use Prim.Native.Nat.{ℕ, _*_}
 use lib.Dec.{eqb}
 use lib.ListN.{length}
 use Rattle.meaning.specs.Sets.{pick}
+use Rattle.meaning.specs.Plate.{Plate}
 use Rattle.meaning.specs.Record.{recordOf}
 use Rattle.meaning.specs.Answers.{treeRefusal, outAfter, workAfter, began}
 use Rattle.record.specs.declared.Written.{Written}
@@ -27,8 +28,9 @@ module _ (k w h : ℕ) (f out work : List ℕ) where
   unfolding writeRefusal
   writeWork = workAfter (began writeRefusal) (w * h) work
 
--- the contract of writing: the answer, the output and the work space
+-- the contract of writing: the answer, the output and the work space; and what is not refused is an accepted plate, its greys bytes among the rest
 pub record WrittenRecord (k w h : ℕ) (f out out′ work work′ : List ℕ) (r : Written) : Type 0 where
   pub answer : r ≡ writeAnswer k w h f out work
   pub output : out′ ≡ writeOut k w h f out work
   pub space : work′ ≡ writeWork k w h f out work
+  pub accepted : writeRefusal k w h f out work ≡ 0 → Plate k w h f

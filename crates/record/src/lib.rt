@@ -1,7 +1,7 @@
 // Records: writing one, reading one, cutting one at a limit, the size list of one. Operations that callers use, and that require nothing.
 ghost use mathlib.Core.Path.{_≡_};
 ghost use mathlib.Core.Bool.{not, _&&_, _||_};
-ghost use Prim.Native.Nat.{ℕ, _-_, _≤_};
+ghost use Prim.Native.Nat.{_-_};
 ghost use lib.Dec.{leb, ltb};
 ghost use lib.ListN.{length};
 ghost use Rattle.meaning.specs.Answers.{refuse, outRefusal};
@@ -83,10 +83,12 @@ fn cut_refusal(limit: usize, n: usize, places: usize) -> u32
 }
 
 // Has either table fewer than n - 1 places?
-fn tables_short(n: usize, counts: usize, losses: usize) -> bool
-    requires { ⌜ 1 ≤ n ⌝ }
+pub fn tables_short(n: usize, counts: usize, losses: usize) -> bool
     ensures { λ r. ⌜ r ≡ (ltb counts (n - 1) || ltb losses (n - 1)) ⌝ }
 {
+    if n == 0 {
+        return false;
+    }
     counts < n - 1 || losses < n - 1
 }
 

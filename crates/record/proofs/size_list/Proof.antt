@@ -62,7 +62,7 @@ cast-n : tie.Need-cast-n
 cast-n c = omega (arith, tree-few (there c))
 
 tables-short-requires : tie.Need-tables-short-requires
-tables-short-requires c κs = tree-some (there c)
+tables-short-requires c κs = tt
 
 clear-requires : tie.Need-clear-requires
 clear-requires c κs = tree-room (there (c .before .before .before))

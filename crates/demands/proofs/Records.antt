@@ -1,0 +1,40 @@
+-- The theorem on records of demand 2.
+use mathlib.Core.Path.{_≡_, refl, sym, _∙_}
+use mathlib.Core.Bool.{Bool, true, false}
+use mathlib.Core.List.{List}
+use Prim.Native.Nat.{ℕ, _*_, _≤_, _<_}
+use native.Mathlib.Omega.{arith}
+use lib.Dec.{ltb}
+use lib.ListN.{length}
+use borrow.Author.Tests.{le-ltb, ltb-false}
+use Rattle.checks.proofs.Refusals.{refuse-none}
+use Rattle.parse.specs.Parse.{Parsed, early, late, plate, readOf}
+use Rattle.roundtrip.proofs.There.{read-there, record-injective}
+use Rattle.roundtrip.proofs.Exactly.{Numbered, read-exact, read-numbered}
+use Rattle.record.specs.Reading.{headOf, readRefusal}
+use Rattle.demands.specs.Records.{OneRecord, RecordRead}
+
+-- what is read without a refusal is a plate, and there are places for it
+accepted : (P : Parsed) (out : ℕ) → Numbered P → headOf (readRefusal P out) P .refusal ≡ 0
+    → (k : ℕ) × ((w : ℕ) × ((h : ℕ) × ((f : List ℕ) × ((P ≡ plate k w h f) × (w * h ≤ out)))))
+accepted (early number) out l e = absurd (omega arith)
+accepted (late number pixels) out l e = absurd (omega arith)
+accepted (plate k w h f) out l e =
+    (k, (w, (h, (f, (refl, ltb-false out (w * h) (refuse-none (ltb out (w * h)) 5 0 (omega arith) e .0))))))
+
+pub one-record : OneRecord
+one-record = record {
+  back = λ s out work k w h f r.
+      let z : ltb (length out) (w * h) ≡ false = le-ltb (length out) (w * h) (r .places) in
+      let is : readOf s (length work) ≡ plate k w h f = rw (r .bytes) (read-there (r .accepted) (length work) (r .space)) in
+      (rw (is, z), rw (is, z));
+  only = λ s out work e.
+      let a = accepted (readOf s (length work)) (length out) (read-numbered s (length work)) e in
+      let k = a .0 in
+      let w = a .1 .0 in
+      let h = a .1 .1 .0 in
+      let f = a .1 .1 .1 .0 in
+      let x = read-exact s (length work) k w h f (a .1 .1 .1 .1 .0) in
+      (k, (w, (h, (f, record { accepted = x .1; bytes = x .0; places = a .1 .1 .1 .1 .1; space = x .2 }))));
+  one = λ k k′ w w′ h h′ f f′ p p′ e. record-injective p p′ e;
+}

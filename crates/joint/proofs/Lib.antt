@@ -1,0 +1,3 @@
+-- What the joint operation leaves, on each way out.
+pub mod Claims
+pub mod Joining

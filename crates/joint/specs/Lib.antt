@@ -1,0 +1,2 @@
+-- Demand 3 at one limit, as the contract of a function.
+pub mod Joint
