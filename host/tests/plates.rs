@@ -6,10 +6,15 @@ mod common;
 use common::{Chance, Plate, Seen};
 use livukoe::lent::{self, Image};
 
-const CASES: u64 = 100_000;
+/// How many plates of which largest side.
+const CASES: [(usize, usize); 2] = [(100_000, 7), (200, 30)];
 
-/// The largest side of a plate.
-const SIDE: usize = 7;
+/// The sides of all cases, one after another.
+fn sides() -> impl Iterator<Item = usize> {
+    CASES
+        .into_iter()
+        .flat_map(|(cases, side)| std::iter::repeat_n(side, cases))
+}
 
 type Proved = fn(Image, u32, &mut [u8], &mut [u32]) -> u32;
 type Reference = fn(&[u8], u32, u32, u32, u32, &mut [u8], &mut [u32]) -> reference::Done;
@@ -17,8 +22,8 @@ type Reference = fn(&[u8], u32, u32, u32, u32, &mut [u8], &mut [u32]) -> referen
 /// Compares an operation with one output, over plates by chance.
 fn compare(seed: u64, proved: Proved, reference: Reference, refusals: &[u32]) {
     let (mut chance, mut seen) = (Chance::new(seed), Seen::default());
-    for case in 0..CASES {
-        let plate = chance.ticket(SIDE);
+    for (case, side) in sides().enumerate() {
+        let plate = chance.ticket(side);
         let limit = chance.limit(plate.pixels());
         let mut out = chance.buffer(plate.pixels());
         let mut work = chance.buffer(8 * plate.pixels());
@@ -77,8 +82,8 @@ fn marking_maxima() {
 #[test]
 fn listing_nodes() {
     let (mut chance, mut seen) = (Chance::new(4), Seen::default());
-    for case in 0..CASES {
-        let plate = chance.ticket(SIDE);
+    for (case, side) in sides().enumerate() {
+        let plate = chance.ticket(side);
         let nodes = count_nodes(&plate);
         let mut columns: [Vec<u32>; 4] = std::array::from_fn(|_| chance.buffer(nodes));
         let mut work = chance.buffer(8 * plate.pixels());
