@@ -116,6 +116,7 @@ pub fn regional_maxima(
 }
 
 // What the node list answers: its refusal, or 0 and the number of nodes.
+#[repr(C)]
 pub struct NodeList {
     pub refusal: u32,
     pub count: u32,
