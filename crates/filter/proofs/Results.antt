@@ -201,7 +201,7 @@ module _ {k wd : ℕ} {f v w : List ℕ} {count : ℕ} (p : Planted false k wd f
 
   -- ---- the columns of the node list
 
-  nodes-same : xs p ≡ nodesOf k wd f
+  pub nodes-same : xs p ≡ nodesOf k wd f
   nodes-same = rw (nodes-are k wd f, p .same)
 
   pub listed-count : count ≡ length (nodesOf k wd f)
