@@ -1,7 +1,6 @@
 //! Plates, and the operations on them.
 
-use crate::lent::{self, Image};
-use crate::nodes::NodeList;
+use crate::lent::{self, Image, Node};
 use crate::record::Record;
 use crate::refusal::Refusal;
 use crate::{work_space, Connectivity};
@@ -70,9 +69,15 @@ impl Plate {
         self.answered(|out, work| lent::regional_maxima(self.image(connectivity), out, work))
     }
 
-    /// The nodes of the component tree (max-tree).
-    pub fn nodes(&self, connectivity: Connectivity) -> Result<NodeList, Refusal> {
-        NodeList::of(self.image(connectivity))
+    /// The nodes of the component tree (max-tree), by level rising, then anchor rising. The first is the whole plate.
+    pub fn nodes(&self, connectivity: Connectivity) -> Result<Vec<Node>, Refusal> {
+        let pixels = self.greys.len(); // there are at most as many nodes
+        let mut nodes = vec![Node::default(); pixels];
+        let image = self.image(connectivity);
+        let answer = lent::node_entries(image, &mut nodes, &mut work_space(pixels));
+        Refusal::check(answer.refusal)?;
+        nodes.truncate(answer.count as usize);
+        Ok(nodes)
     }
 
     /// The record of this plate with a connectivity.
