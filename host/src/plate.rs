@@ -15,9 +15,6 @@ pub struct Plate {
     greys: Vec<u8>,
 }
 
-/// `lent::area_open` or `lent::area_close`.
-type Clean = fn(Image, u32, &mut [u8], &mut [u32]) -> u32;
-
 impl Plate {
     /// A plate of these sizes and greys.
     pub fn new(width: u32, height: u32, greys: Vec<u8>) -> Plate {
@@ -56,12 +53,12 @@ impl Plate {
 
     /// The area opening at a limit: light patches of fewer pixels are taken away.
     pub fn area_open(&self, connectivity: Connectivity, limit: u32) -> Result<Plate, Refusal> {
-        self.cleaned(lent::area_open, connectivity, limit)
+        self.answered(|out, work| lent::area_open(self.image(connectivity), limit, out, work))
     }
 
     /// The area closing at a limit: dark patches of fewer pixels are taken away.
     pub fn area_close(&self, connectivity: Connectivity, limit: u32) -> Result<Plate, Refusal> {
-        self.cleaned(lent::area_close, connectivity, limit)
+        self.answered(|out, work| lent::area_close(self.image(connectivity), limit, out, work))
     }
 
     /// The regional maxima: 1 inside one, 0 elsewhere.
@@ -83,15 +80,6 @@ impl Plate {
     /// The record of this plate with a connectivity.
     pub fn record(&self, connectivity: Connectivity) -> Result<Record, Refusal> {
         Record::of(self.image(connectivity))
-    }
-
-    fn cleaned(
-        &self,
-        clean: Clean,
-        connectivity: Connectivity,
-        limit: u32,
-    ) -> Result<Plate, Refusal> {
-        self.answered(|out, work| clean(self.image(connectivity), limit, out, work))
     }
 
     /// The plate of this size that an operation writes.
