@@ -80,6 +80,18 @@ struct livukoe_node_count livukoe_node_list(
     uint32_t *areas, size_t areas_length, uint32_t *anchors, size_t anchors_length,
     uint32_t *work, size_t work_length);
 
+struct livukoe_node {
+    uint32_t level;
+    uint32_t parent;
+    uint32_t area;
+    uint32_t anchor;
+};
+
+/* The same as one list of entries. Refusals 1, 2, 3, 6, 5. */
+struct livukoe_node_count livukoe_node_entries(
+    const uint8_t *image, size_t image_length, uint32_t width, uint32_t height, uint32_t connectivity,
+    struct livukoe_node *list, size_t list_length, uint32_t *work, size_t work_length);
+
 struct livukoe_plate_head {
     uint32_t refusal;
     uint32_t width;

@@ -6,7 +6,7 @@
 //! refusal ahead of it is answered.
 
 mod c {
-    use super::{NodeCount, PlateHead, RecordHead, RecordLength, SizeHead};
+    use super::{Node, NodeCount, PlateHead, RecordHead, RecordLength, SizeHead};
 
     extern "C" {
         pub fn livukoe_area_open(
@@ -65,6 +65,18 @@ mod c {
             work_length: usize,
         ) -> NodeCount;
 
+        pub fn livukoe_node_entries(
+            image: *const u8,
+            image_length: usize,
+            width: u32,
+            height: u32,
+            connectivity: u32,
+            list: *mut Node,
+            list_length: usize,
+            work: *mut u32,
+            work_length: usize,
+        ) -> NodeCount;
+
         pub fn livukoe_read_pgm(
             file: *const u8,
             file_length: usize,
@@ -116,6 +128,20 @@ mod c {
 
         pub fn livukoe_ink_percentage(grey: u8) -> u8;
     }
+}
+
+/// A node of a component tree: a connected component of the pixels that are at least as light as some grey.
+#[repr(C)]
+#[derive(Clone, Copy, Debug, Default, PartialEq, Eq)]
+pub struct Node {
+    /// The least grey in the node.
+    pub level: u32,
+    /// The number of the smallest node that strictly contains it; 0 for the root.
+    pub parent: u32,
+    /// The number of its pixels.
+    pub area: u32,
+    /// The lowest number of a pixel at its level.
+    pub anchor: u32,
 }
 
 /// What the node list answers.
@@ -232,6 +258,11 @@ pub fn node_list(image: Image, columns: NodeColumns, work: &mut [u32]) -> NodeCo
         c::livukoe_node_list,
         plate image, write levels, write parents, write areas, write anchors, write work
     )
+}
+
+/// The nodes of a plate as one list of entries.
+pub fn node_entries(image: Image, list: &mut [Node], work: &mut [u32]) -> NodeCount {
+    call!(c::livukoe_node_entries, plate image, write list, write work)
 }
 
 /// Reads a plate file.

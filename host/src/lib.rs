@@ -20,7 +20,6 @@
 
 mod connectivity;
 pub mod lent;
-mod nodes;
 pub mod pictures;
 mod plate;
 mod record;
@@ -28,8 +27,7 @@ mod refusal;
 mod sizes;
 
 pub use connectivity::Connectivity;
-pub use lent::ink_percentage;
-pub use nodes::{Node, NodeList};
+pub use lent::{ink_percentage, Node};
 pub use plate::Plate;
 pub use record::Record;
 pub use refusal::Refusal;

@@ -1,7 +1,6 @@
 //! Plates, and the operations on them.
 
-use crate::lent::{self, Image};
-use crate::nodes::NodeList;
+use crate::lent::{self, Image, Node};
 use crate::record::Record;
 use crate::refusal::Refusal;
 use crate::{work_space, Connectivity};
@@ -15,9 +14,6 @@ pub struct Plate {
     height: u32,
     greys: Vec<u8>,
 }
-
-/// `lent::area_open` or `lent::area_close`.
-type Clean = fn(Image, u32, &mut [u8], &mut [u32]) -> u32;
 
 impl Plate {
     /// A plate of these sizes and greys.
@@ -57,12 +53,12 @@ impl Plate {
 
     /// The area opening at a limit: light patches of fewer pixels are taken away.
     pub fn area_open(&self, connectivity: Connectivity, limit: u32) -> Result<Plate, Refusal> {
-        self.cleaned(lent::area_open, connectivity, limit)
+        self.answered(|out, work| lent::area_open(self.image(connectivity), limit, out, work))
     }
 
     /// The area closing at a limit: dark patches of fewer pixels are taken away.
     pub fn area_close(&self, connectivity: Connectivity, limit: u32) -> Result<Plate, Refusal> {
-        self.cleaned(lent::area_close, connectivity, limit)
+        self.answered(|out, work| lent::area_close(self.image(connectivity), limit, out, work))
     }
 
     /// The regional maxima: 1 inside one, 0 elsewhere.
@@ -70,23 +66,20 @@ impl Plate {
         self.answered(|out, work| lent::regional_maxima(self.image(connectivity), out, work))
     }
 
-    /// The nodes of the component tree (max-tree).
-    pub fn nodes(&self, connectivity: Connectivity) -> Result<NodeList, Refusal> {
-        NodeList::of(self.image(connectivity))
+    /// The nodes of the component tree (max-tree), by level rising, then anchor rising. The first is the whole plate.
+    pub fn nodes(&self, connectivity: Connectivity) -> Result<Vec<Node>, Refusal> {
+        let pixels = self.greys.len(); // there are at most as many nodes
+        let mut nodes = vec![Node::default(); pixels];
+        let image = self.image(connectivity);
+        let answer = lent::node_entries(image, &mut nodes, &mut work_space(pixels));
+        Refusal::check(answer.refusal)?;
+        nodes.truncate(answer.count as usize);
+        Ok(nodes)
     }
 
     /// The record of this plate with a connectivity.
     pub fn record(&self, connectivity: Connectivity) -> Result<Record, Refusal> {
         Record::of(self.image(connectivity))
-    }
-
-    fn cleaned(
-        &self,
-        clean: Clean,
-        connectivity: Connectivity,
-        limit: u32,
-    ) -> Result<Plate, Refusal> {
-        self.answered(|out, work| clean(self.image(connectivity), limit, out, work))
     }
 
     /// The plate of this size that an operation writes.

@@ -67,11 +67,10 @@ fn check_record(plate: &Plate, connectivity: Connectivity, limit: u32) {
 /// What holds of a plate's nodes and its maxima.
 fn check_nodes(plate: &Plate, connectivity: Connectivity) {
     let nodes = plate.nodes(connectivity).expect("nodes");
-    let root = nodes.get(0).expect("a root");
-    assert_eq!(root.area as usize, plate.greys().len());
+    assert_eq!(nodes[0].area as usize, plate.greys().len());
     let mut leaf = vec![true; nodes.len()];
     for (number, node) in nodes.iter().enumerate().skip(1) {
-        let parent = nodes.get(node.parent as usize).expect("a parent");
+        let parent = nodes[node.parent as usize];
         assert!(
             node.parent < number as u32 && parent.level < node.level && parent.area > node.area
         );

@@ -4,7 +4,7 @@
 mod common;
 
 use common::{Chance, Plate, Seen};
-use livukoe::lent::{self, Image};
+use livukoe::lent::{self, Image, Node};
 
 /// How many plates of which largest side.
 const CASES: [(usize, usize); 2] = [(100_000, 7), (200, 30)];
@@ -101,6 +101,33 @@ fn listing_nodes() {
         assert_eq!(answer.count, wanted.count, "case {case}: {plate:?}");
         assert_eq!(columns, columns2, "case {case}: {plate:?}");
         assert_eq!(work, work2, "case {case}: {plate:?}");
+        seen.note(answer.refusal);
+    }
+    seen.assert_all(&[0, 1, 2, 3, 5, 6]);
+}
+
+/// The list of entries against the columns of the second program.
+#[test]
+fn listing_entries() {
+    let (mut chance, mut seen) = (Chance::new(15), Seen::default());
+    for (case, side) in sides().enumerate() {
+        let plate = chance.ticket(side);
+        let places = chance.length_near(count_nodes(&plate));
+        let mut list = vec![Node::default(); places];
+        let mut work = chance.buffer(8 * plate.pixels());
+        let (mut columns, mut work2) = (std::array::from_fn(|_| vec![0; places]), work.clone());
+        let answer = lent::node_entries(plate.image(), &mut list, &mut work);
+        let wanted = reference_nodes(&plate, &mut columns, &mut work2);
+        assert_eq!(answer.refusal, wanted.refusal, "case {case}: {plate:?}");
+        assert_eq!(answer.count, wanted.count, "case {case}: {plate:?}");
+        let entry = |i: usize| Node {
+            level: columns[0][i],
+            parent: columns[1][i],
+            area: columns[2][i],
+            anchor: columns[3][i],
+        };
+        let entries: Vec<Node> = (0..places).map(entry).collect();
+        assert_eq!((list, work), (entries, work2), "case {case}: {plate:?}");
         seen.note(answer.refusal);
     }
     seen.assert_all(&[0, 1, 2, 3, 5, 6]);

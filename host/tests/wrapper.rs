@@ -42,9 +42,8 @@ fn nodes_by_number() {
     assert_eq!(nodes.len(), 4);
     let levels: Vec<u32> = nodes.iter().map(|node| node.level).collect();
     assert_eq!(levels, [10, 30, 50, 90]);
-    let node = nodes.get(2).expect("node 2");
+    let node = nodes[2];
     assert_eq!((node.parent, node.area, node.anchor), (1, 1, 5));
-    assert_eq!(nodes.get(4), None);
 }
 
 #[test]

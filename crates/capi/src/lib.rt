@@ -10,8 +10,10 @@ ghost use Rattle.filter.specs.Operations.{Answered, NodesListed, columns};
 ghost use Rattle.parse.specs.Parse.{readOf};
 ghost use Rattle.record.specs.Writing.{WrittenRecord};
 ghost use Rattle.record.specs.Reading.{ReadRecord, CutRecord, ListedSizes};
+ghost use Rattle.entries.specs.Entries.{EntriesListed};
 ghost use Rattle.pgm.specs.File.{readPgm, rasterOf};
 ghost use Rattle.ink.specs.Percentage.{Percentage};
+use entries::Node;
 use filter::NodeList;
 use pgm::PgmRead;
 use record::Head;
@@ -106,6 +108,22 @@ pub extern "C" fn livukoe_node_list(
         anchors,
         work,
     )
+}
+
+// The nodes of a plate as entries of one list.
+#[no_mangle]
+pub extern "C" fn livukoe_node_entries(
+    image: &[u8],
+    width: u32,
+    height: u32,
+    connectivity: u32,
+    list: &mut [Node],
+    work: &mut [u32],
+) -> NodeList
+    ensures { λ r. ⌜ EntriesListed connectivity width height (now (image .entry)) (now (list .entry)) (now (list .exit))
+        (now (work .entry)) (now (work .exit)) (r .refusal) (r .count) ⌝ }
+{
+    entries::node_entries(image, width, height, connectivity, list, work)
 }
 
 // Reads a plate file into the output.

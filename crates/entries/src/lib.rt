@@ -18,6 +18,7 @@ const PARENT: usize = 5;
 const AREA: usize = 7;
 
 // A node: its level, its parent's number (0 for the root), its area and its anchor.
+#[repr(C)]
 pub struct Node {
     pub level: u32,
     pub parent: u32,

@@ -3,7 +3,7 @@
 use livukoe::{Connectivity, Plate};
 
 use crate::clock;
-use crate::operations::{Bench, OPERATIONS, WORKERS};
+use crate::operations::{Bench, Worker, OPERATIONS, WORKERS};
 
 /// The best times of an operation on a picture, by worker.
 pub struct Timing {
@@ -44,17 +44,24 @@ pub fn all(kind: &'static str, plate: &Plate, connectivity: Connectivity) -> Vec
         .collect()
 }
 
+/// Times that are shorter than this are measured over several repetitions.
+const SHORT: f64 = 0.002;
+
 /// The workers in turn, so that what disturbs one disturbs all; what they write must be the same.
 fn best_times(bench: &mut Bench, operation: &str, runs: usize) -> [f64; 3] {
+    let first = clock::seconds(|| bench.run(operation, Worker::Proved));
+    let repetitions = (SHORT / first).ceil().clamp(1.0, 1e4);
+    let answer = bench.buffers.clone();
     let mut best = [f64::MAX; 3];
-    let mut answer = None;
-    for run in 0..runs {
+    for _ in 0..runs {
         for (worker, best) in WORKERS.into_iter().zip(&mut best) {
-            *best = best.min(clock::seconds(|| bench.run(operation, worker)));
-            if run == 0 {
-                let first = answer.get_or_insert_with(|| bench.buffers.clone());
-                assert!(*first == bench.buffers, "{operation}: the answers differ");
-            }
+            let seconds = clock::seconds(|| {
+                for _ in 0..repetitions as usize {
+                    bench.run(operation, worker);
+                }
+            });
+            *best = best.min(seconds / repetitions);
+            assert!(answer == bench.buffers, "{operation}: the answers differ");
         }
     }
     best

@@ -1,6 +1,6 @@
 //! Each operation, proved and in plain Rust, over buffers that are allocated once.
 
-use livukoe::lent::{self as proved, Image, NodeColumns};
+use livukoe::lent::{self as proved, Image, Node, NodeColumns};
 use livukoe::{Connectivity, Plate};
 
 use crate::{twin, twin_records};
@@ -9,8 +9,8 @@ use crate::{twin, twin_records};
 pub const LIMIT: u32 = 64;
 
 /// The operations, in the order of the tables.
-pub const OPERATIONS: [&str; 8] = [
-    "open", "close", "maxima", "nodes", "record", "plate", "cut", "sizelist",
+pub const OPERATIONS: [&str; 10] = [
+    "open", "close", "maxima", "nodes", "columns", "record", "plate", "cut", "sizelist", "read",
 ];
 
 /// Who does the work.
@@ -30,6 +30,7 @@ pub struct Bench<'a> {
     plate: &'a Plate,
     connectivity: Connectivity,
     record: Vec<u8>,
+    file: Vec<u8>,
     pub buffers: Buffers,
 }
 
@@ -39,6 +40,7 @@ pub struct Buffers {
     pub greys: Vec<u8>,
     bytes: Vec<u8>,
     columns: [Vec<u32>; 4],
+    list: Vec<Node>,
     losses: Vec<u64>,
     work: Vec<u32>,
 }
@@ -54,10 +56,12 @@ impl<'a> Bench<'a> {
                 greys: vec![1; pixels],
                 bytes: vec![1; record.bytes().len()],
                 columns: std::array::from_fn(|_| vec![1; pixels]),
+                list: vec![Node::default(); pixels],
                 losses: vec![1; pixels],
                 work: vec![1; 8 * pixels],
             },
             record: record.bytes().to_vec(),
+            file: [plate.pgm_header().as_bytes(), plate.greys()].concat(),
         }
     }
 
@@ -76,13 +80,15 @@ impl<'a> Bench<'a> {
             "open" => proved::area_open(lent.image, LIMIT, lent.greys, lent.work),
             "close" => proved::area_close(lent.image, LIMIT, lent.greys, lent.work),
             "maxima" => proved::regional_maxima(lent.image, lent.greys, lent.work),
-            "nodes" => proved::node_list(lent.image, lent.columns, lent.work).refusal,
+            "columns" => proved::node_list(lent.image, lent.columns, lent.work).refusal,
+            "nodes" => proved::node_entries(lent.image, lent.list, lent.work).refusal,
             "record" => proved::write_record(lent.image, lent.bytes, lent.work).refusal,
             "plate" => proved::read_record(lent.record, lent.greys, lent.work).refusal,
             "cut" => proved::cut_record(lent.record, LIMIT, lent.greys, lent.work).refusal,
             "sizelist" => {
                 proved::size_list(lent.record, lent.columns.areas, lent.losses, lent.work).refusal
             }
+            "read" => proved::read_pgm(lent.file, lent.greys).refusal,
             _ => panic!("no operation is called {operation}"),
         };
         assert_eq!(refusal, 0, "{operation}");
@@ -94,14 +100,9 @@ impl<'a> Bench<'a> {
             "open" => twin::area_open::<CHECKED>(lent.image, LIMIT, lent.greys, lent.work),
             "close" => twin::area_close::<CHECKED>(lent.image, LIMIT, lent.greys, lent.work),
             "maxima" => twin::regional_maxima::<CHECKED>(lent.image, lent.greys, lent.work),
-            "nodes" => drop(twin::node_list::<CHECKED>(
-                lent.image,
-                lent.columns,
-                lent.work,
-            )),
-            "record" => drop(twin_records::write_record::<CHECKED>(
-                lent.image, lent.bytes, lent.work,
-            )),
+            "nodes" => twin::node_entries::<CHECKED>(lent.image, lent.list, lent.work),
+            "columns" => twin::node_list::<CHECKED>(lent.image, lent.columns, lent.work),
+            "record" => twin_records::write_record::<CHECKED>(lent.image, lent.bytes, lent.work),
             "plate" => twin_records::read_record::<CHECKED>(lent.record, lent.greys, lent.work),
             "cut" => twin_records::cut_record::<CHECKED>(lent.record, LIMIT, lent.greys, lent.work),
             "sizelist" => {
@@ -112,6 +113,7 @@ impl<'a> Bench<'a> {
                     lent.work,
                 );
             }
+            "read" => twin_records::read_pgm(lent.file, lent.greys),
             _ => panic!("no operation is called {operation}"),
         }
     }
@@ -127,6 +129,7 @@ impl<'a> Bench<'a> {
                 connectivity: self.connectivity.number(),
             },
             record: &self.record,
+            file: &self.file,
             greys: &mut self.buffers.greys,
             bytes: &mut self.buffers.bytes,
             columns: NodeColumns {
@@ -135,6 +138,7 @@ impl<'a> Bench<'a> {
                 areas,
                 anchors,
             },
+            list: &mut self.buffers.list,
             losses: &mut self.buffers.losses,
             work: &mut self.buffers.work,
         }
@@ -144,9 +148,11 @@ impl<'a> Bench<'a> {
 struct Parts<'a> {
     image: Image<'a>,
     record: &'a [u8],
+    file: &'a [u8],
     greys: &'a mut [u8],
     bytes: &'a mut [u8],
     columns: NodeColumns<'a>,
+    list: &'a mut [Node],
     losses: &'a mut [u64],
     work: &'a mut [u32],
 }

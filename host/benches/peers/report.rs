@@ -89,7 +89,9 @@ fn table(timings: &[&Timing]) -> String {
             .collect();
         text += &format!("| {kind} |");
         for timing in &row {
-            text += &format!(" {:.1} |", timing.seconds[0] * 1e9 / timing.pixels as f64);
+            let nanoseconds = timing.seconds[0] * 1e9 / timing.pixels as f64;
+            let digits = if nanoseconds < 1.0 { 2 } else { 1 };
+            text += &format!(" {nanoseconds:.digits$} |");
         }
         text += &format!(" {} | {} |\n", ratios(&row, 1), ratios(&row, 2));
     }

@@ -3,7 +3,7 @@
 
 use std::ops::{Index, IndexMut};
 
-use livukoe::lent::{Image, NodeColumns};
+use livukoe::lent::{Image, Node, NodeColumns};
 
 const LEVELS: usize = 256;
 
@@ -464,7 +464,7 @@ pub fn regional_maxima<const CHECKED: bool>(image: Image, out: &mut [u8], work: 
     clear(work, pixels);
 }
 
-pub fn node_list<const CHECKED: bool>(image: Image, out: NodeColumns, work: &mut [u32]) -> usize {
+pub fn node_list<const CHECKED: bool>(image: Image, out: NodeColumns, work: &mut [u32]) {
     let pixels = image.greys.len();
     let count = plate_tree::<CHECKED>(image, false, work);
     let columns = Columns::<CHECKED>::of(work, pixels);
@@ -473,5 +473,19 @@ pub fn node_list<const CHECKED: bool>(image: Image, out: NodeColumns, work: &mut
     out.areas[..count].copy_from_slice(&columns.area.0[..count]);
     out.anchors[..count].copy_from_slice(&columns.stack.0[..count]);
     clear(work, pixels);
-    count
+}
+
+pub fn node_entries<const CHECKED: bool>(image: Image, list: &mut [Node], work: &mut [u32]) {
+    let pixels = image.greys.len();
+    let count = plate_tree::<CHECKED>(image, false, work);
+    let columns = Columns::<CHECKED>::of(work, pixels);
+    for (i, node) in list[..count].iter_mut().enumerate() {
+        *node = Node {
+            level: columns.flood_parent[i],
+            parent: columns.first[i],
+            area: columns.area[i],
+            anchor: columns.stack[i],
+        };
+    }
+    clear(work, pixels);
 }

@@ -1,4 +1,4 @@
-//! The operations on records in plain Rust, with the same passes as the proved ones: a record is measured and then
+//! The operations on records and plate files in plain Rust, with the same passes as the proved ones: a record is measured and then
 //! written; one that is read is parsed, its tree is built, and the record of that tree is compared with it. Only
 //! records of plates are read here: a damaged one panics.
 
@@ -97,7 +97,7 @@ fn same_field(bytes: &[u8], mut at: usize, mut value: u32) -> Option<usize> {
     (u32::from(*bytes.get(at)?) == value).then_some(at + 1)
 }
 
-pub fn write_record<const CHECKED: bool>(image: Image, out: &mut [u8], work: &mut [u32]) -> usize {
+pub fn write_record<const CHECKED: bool>(image: Image, out: &mut [u8], work: &mut [u32]) {
     let head = Head {
         width: image.width,
         height: image.height,
@@ -116,7 +116,6 @@ pub fn write_record<const CHECKED: bool>(image: Image, out: &mut [u8], work: &mu
         true
     });
     clear(work, head.pixels());
-    size
 }
 
 /// Parses a record; its greys stand in the work space.
@@ -202,4 +201,20 @@ pub fn size_list<const CHECKED: bool>(
         losses[columns.area[i] as usize - 1] += loss;
     }
     clear(work, head.pixels());
+}
+
+/// Reads a plate file whose header has no comments.
+pub fn read_pgm(file: &[u8], out: &mut [u8]) {
+    let mut words = file.splitn(5, |byte| byte.is_ascii_whitespace());
+    let mut next = || words.next().expect("a word of the header");
+    assert_eq!(next(), b"P5");
+    let number = |word: &[u8]| {
+        let text = std::str::from_utf8(word).expect("digits");
+        text.parse::<usize>().expect("a number")
+    };
+    let pixels = number(next()) * number(next());
+    assert_eq!(number(next()), 255);
+    let raster = next();
+    assert_eq!(raster.len(), pixels);
+    out[..pixels].copy_from_slice(raster);
 }

@@ -77,6 +77,11 @@ static void check_maxima_and_nodes(void)
     answer = livukoe_node_list(
         SMALL, PIXELS, WIDTH, HEIGHT, 4, columns[0], 4, columns[1], 4, columns[2], 4, columns[3], 4, work, WORK);
     EXPECT(answer.refusal == 0 && answer.count == 4);
+    struct livukoe_node *list = filled(4 * sizeof *list);
+    answer = livukoe_node_entries(SMALL, PIXELS, WIDTH, HEIGHT, 4, list, 4, work, WORK);
+    EXPECT(answer.refusal == 0 && answer.count == 4);
+    EXPECT(list[2].level == 50 && list[2].parent == 1 && list[2].area == 1 && list[2].anchor == 5);
+    free(list);
     for (int c = 0; c < 4; c++) {
         EXPECT(memcmp(columns[c], wanted[c], sizeof wanted[c]) == 0);
         free(columns[c]);
