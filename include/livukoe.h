@@ -148,6 +148,22 @@ struct livukoe_size_head livukoe_size_list(
     const uint8_t *bytes, size_t bytes_length, uint32_t *counts, size_t counts_length,
     uint64_t *losses, size_t losses_length, uint32_t *work, size_t work_length);
 
+struct livukoe_joint {
+    uint32_t refusal;
+    size_t length;    /* of the record, in bytes */
+    uint32_t nodes;   /* their number */
+    uint32_t darkest; /* the least grey */
+};
+
+/* Writes the record of a plate, cuts it at a limit and lists its sizes, with the exact bytes passed on: `bytes` is as
+ * livukoe_write_record leaves it, `out` as livukoe_cut_record, the tables as livukoe_size_list. Refusals: 1, 2, 3, 4, 5
+ * and 6 as for opening; then 5 when either table has fewer than pixels - 1 places; then 5 when the record needs more
+ * bytes than were lent, which leaves the work space zeroed. Nothing is written on a refusal. */
+struct livukoe_joint livukoe_write_cut_list(
+    const uint8_t *image, size_t image_length, uint32_t width, uint32_t height, uint32_t connectivity, uint32_t limit,
+    uint8_t *bytes, size_t bytes_length, uint8_t *out, size_t out_length, uint32_t *counts, size_t counts_length,
+    uint64_t *losses, size_t losses_length, uint32_t *work, size_t work_length);
+
 /* The ink percentage of a grey: the whole number nearest to (255 - grey) x 100 / 255. Never refuses. */
 uint8_t livukoe_ink_percentage(uint8_t grey);
 

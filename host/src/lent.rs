@@ -6,7 +6,7 @@
 //! refusal ahead of it is answered.
 
 mod c {
-    use super::{Node, NodeCount, PlateHead, RecordHead, RecordLength, SizeHead};
+    use super::{JointHead, Node, NodeCount, PlateHead, RecordHead, RecordLength, SizeHead};
 
     extern "C" {
         pub fn livukoe_area_open(
@@ -126,6 +126,25 @@ mod c {
             work_length: usize,
         ) -> SizeHead;
 
+        pub fn livukoe_write_cut_list(
+            image: *const u8,
+            image_length: usize,
+            width: u32,
+            height: u32,
+            connectivity: u32,
+            limit: u32,
+            bytes: *mut u8,
+            bytes_length: usize,
+            out: *mut u8,
+            out_length: usize,
+            counts: *mut u32,
+            counts_length: usize,
+            losses: *mut u64,
+            losses_length: usize,
+            work: *mut u32,
+            work_length: usize,
+        ) -> JointHead;
+
         pub fn livukoe_ink_percentage(grey: u8) -> u8;
     }
 }
@@ -191,6 +210,16 @@ pub struct SizeHead {
     pub darkest: u32,
 }
 
+/// What writing, cutting and listing at once answer.
+#[repr(C)]
+#[derive(Clone, Copy, Debug, Default, PartialEq, Eq)]
+pub struct JointHead {
+    pub refusal: u32,
+    pub length: usize,
+    pub nodes: u32,
+    pub darkest: u32,
+}
+
 /// A plate as a caller has it, with the connectivity that an operation goes by. Nothing is checked here.
 #[derive(Clone, Copy, Debug)]
 pub struct Image<'a> {
@@ -207,6 +236,15 @@ pub struct NodeColumns<'a> {
     pub parents: &'a mut [u32],
     pub areas: &'a mut [u32],
     pub anchors: &'a mut [u32],
+}
+
+/// The outputs of writing, cutting and listing at once: the record, the cut and the tables of the size list.
+#[derive(Debug)]
+pub struct JointOutputs<'a> {
+    pub bytes: &'a mut [u8],
+    pub out: &'a mut [u8],
+    pub counts: &'a mut [u32],
+    pub losses: &'a mut [u64],
 }
 
 /// Calls a C function. `read s` and `write s` pass the pointer and the length of a slice, `plate p` what an [`Image`] has,
@@ -293,6 +331,25 @@ pub fn size_list(
     work: &mut [u32],
 ) -> SizeHead {
     call!(c::livukoe_size_list, read bytes, write counts, write losses, write work)
+}
+
+/// Writes the record of a plate, cuts it at a limit and lists its sizes, with the exact bytes passed on.
+pub fn write_cut_list(
+    image: Image,
+    limit: u32,
+    outputs: JointOutputs,
+    work: &mut [u32],
+) -> JointHead {
+    let JointOutputs {
+        bytes,
+        out,
+        counts,
+        losses,
+    } = outputs;
+    call!(
+        c::livukoe_write_cut_list,
+        plate image, limit, write bytes, write out, write counts, write losses, write work
+    )
 }
 
 /// The ink percentage of a grey.

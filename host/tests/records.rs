@@ -151,6 +151,95 @@ fn listing_sizes() {
     seen.assert_all(&[0, 5, 6, 20, 21, 22, 23, 24]);
 }
 
+/// What writing, cutting and listing at once are lent.
+#[derive(Clone, Debug, PartialEq)]
+struct Buffers {
+    bytes: Vec<u8>,
+    out: Vec<u8>,
+    counts: Vec<u32>,
+    losses: Vec<u64>,
+    work: Vec<u32>,
+}
+
+/// What they answer and leave, by the second program's functions one after another.
+fn one_after_another(plate: &Plate, limit: u32, lent: &mut Buffers) -> lent::JointHead {
+    let refused = |refusal| lent::JointHead {
+        refusal,
+        ..lent::JointHead::default()
+    };
+    let greys = &plate.greys;
+    let (width, height, connectivity) = plate.numbers();
+    let (mut out, mut work) = (lent.out.clone(), lent.work.clone());
+    let opened = reference::area_open(
+        greys,
+        width,
+        height,
+        connectivity,
+        limit,
+        &mut out,
+        &mut work,
+    );
+    if opened.refusal != 0 {
+        return refused(opened.refusal);
+    }
+    if lent.counts.len().min(lent.losses.len()) < plate.pixels() - 1 {
+        return refused(5);
+    }
+    let Buffers {
+        bytes,
+        out,
+        counts,
+        losses,
+        work,
+    } = lent;
+    let written = reference::write_record(greys, width, height, connectivity, bytes, work);
+    if written.refusal != 0 {
+        return refused(written.refusal);
+    }
+    let record = &bytes[..written.length];
+    reference::cut_record(record, limit, out, work);
+    let sizes = reference::size_list(record, counts, losses, work);
+    lent::JointHead {
+        refusal: 0,
+        length: written.length,
+        nodes: sizes.nodes,
+        darkest: u32::from(sizes.darkest),
+    }
+}
+
+#[test]
+fn writing_cutting_and_listing_at_once() {
+    let (mut chance, mut seen) = (Chance::new(13), Seen::default());
+    for case in 0..CASES {
+        let plate = chance.ticket(SIDE);
+        let limit = chance.limit(plate.pixels());
+        let places = plate.pixels().saturating_sub(1);
+        let mut given = Buffers {
+            bytes: chance.buffer(record_of(&plate).len()),
+            out: chance.buffer(plate.pixels()),
+            counts: chance.buffer(places),
+            losses: chance.buffer(places),
+            work: chance.buffer(8 * plate.pixels()),
+        };
+        let mut wanted = given.clone();
+        let outputs = lent::JointOutputs {
+            bytes: &mut given.bytes,
+            out: &mut given.out,
+            counts: &mut given.counts,
+            losses: &mut given.losses,
+        };
+        let answer = lent::write_cut_list(plate.image(), limit, outputs, &mut given.work);
+        assert_eq!(
+            answer,
+            one_after_another(&plate, limit, &mut wanted),
+            "case {case}: {plate:?}"
+        );
+        assert_eq!(given, wanted, "case {case}: {plate:?}");
+        seen.note(answer.refusal);
+    }
+    seen.assert_all(&[0, 1, 2, 3, 4, 5, 6]);
+}
+
 /// Bytes by chance that look like a record's beginning.
 #[test]
 fn invented_records() {

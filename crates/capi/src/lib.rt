@@ -11,10 +11,12 @@ ghost use Rattle.parse.specs.Parse.{readOf};
 ghost use Rattle.record.specs.Writing.{WrittenRecord};
 ghost use Rattle.record.specs.Reading.{ReadRecord, CutRecord, ListedSizes};
 ghost use Rattle.entries.specs.Entries.{EntriesListed};
+ghost use Rattle.joint.specs.Joint.{Joined};
 ghost use Rattle.pgm.specs.File.{readPgm, rasterOf};
 ghost use Rattle.ink.specs.Percentage.{Percentage};
 use entries::Node;
 use filter::NodeList;
+use joint::Joint;
 use pgm::PgmRead;
 use record::Head;
 use record::SizeHead;
@@ -190,4 +192,34 @@ pub extern "C" fn livukoe_size_list(
     ensures { λ r. ⌜ ListedSizes (readOf (now (bytes .entry)) (length (now (work .entry)))) (now (counts .entry)) (now (counts .exit)) (now (losses .entry)) (now (losses .exit)) (now (work .entry)) (now (work .exit)) r ⌝ }
 {
     record::size_list(bytes, counts, losses, work)
+}
+
+// Writes the record of a plate, cuts it at a limit, and lists its sizes.
+#[no_mangle]
+pub extern "C" fn livukoe_write_cut_list(
+    image: &[u8],
+    width: u32,
+    height: u32,
+    connectivity: u32,
+    limit: u32,
+    bytes: &mut [u8],
+    out: &mut [u8],
+    counts: &mut [u32],
+    losses: &mut [u64],
+    work: &mut [u32],
+) -> Joint
+    ensures { λ r. ⌜ Joined connectivity width height limit (now (image .entry)) (now (bytes .entry)) (now (bytes .exit)) (now (out .entry)) (now (out .exit)) (now (counts .entry)) (now (counts .exit)) (now (losses .entry)) (now (losses .exit)) (now (work .entry)) (now (work .exit)) r ⌝ }
+{
+    joint::write_cut_list(
+        image,
+        width,
+        height,
+        connectivity,
+        limit,
+        bytes,
+        out,
+        counts,
+        losses,
+        work,
+    )
 }

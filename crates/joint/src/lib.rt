@@ -4,6 +4,7 @@ ghost use lib.ListN.{length};
 ghost use Rattle.joint.specs.Joint.{earlyRefusal, Joined};
 
 // What the operation answers: the length of the record in bytes, the number of nodes, the darkest grey.
+#[repr(C)]
 pub struct Joint {
     pub refusal: u32,
     pub length: usize,
