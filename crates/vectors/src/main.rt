@@ -7,8 +7,6 @@
 //     read, cut, sizes                     a record. The second table of `sizes` has `limit` places
 //     file, text                           a plate file; `text` is what sizelist prints
 //     ink                                  greys
-mod cases;
-mod lists;
 mod operations;
 
 ghost use Prim.Native.Nat.{_≤_};

@@ -1,12 +1,12 @@
 // The operations, each run on a case and printed.
 ghost use Prim.Native.Nat.{_≤_};
-use crate::cases;
-use crate::cases::Case;
-use crate::lists::print_bar;
-use crate::lists::print_bytes;
-use crate::lists::print_longs;
-use crate::lists::print_number;
-use crate::lists::print_words;
+use caselines::cases;
+use caselines::cases::Case;
+use caselines::lists::print_bar;
+use caselines::lists::print_bytes;
+use caselines::lists::print_longs;
+use caselines::lists::print_number;
+use caselines::lists::print_words;
 use libc::STDOUT_FILENO;
 
 fn lesser(a: usize, b: usize) -> usize

@@ -2,8 +2,8 @@
 use Prim.Native.Nat.{_-_, _≤_, _<_}
 use lib.ListN.{length}
 use native.Mathlib.Omega.{arith}
-use Rattle.vectors.proofs.cases.number_at.Statement.{statement}
-use Rattle.vectors.proofs.cases.number_at.Tie as tie
+use Rattle.caselines.proofs.cases.number_at.Statement.{statement}
+use Rattle.caselines.proofs.cases.number_at.Tie as tie
 
 abbrev Inv-loop : tie.InvT-loop
 Inv-loop line at value₀ i₀ value i = (at ≤ i) × (value < 4294967296)

@@ -1,8 +1,8 @@
 -- `cases::run_at` moves on.
 use borrow.Author.Needs.{needs}
 use native.Mathlib.Omega.{arith}
-use Rattle.vectors.proofs.cases.run_at.Statement.{statement}
-use Rattle.vectors.proofs.cases.run_at.Tie as tie
+use Rattle.caselines.proofs.cases.run_at.Statement.{statement}
+use Rattle.caselines.proofs.cases.run_at.Tie as tie
 
 number-at-requires : tie.Need-number-at-requires
 number-at-requires c κs = search needs

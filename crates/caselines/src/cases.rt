@@ -1,7 +1,7 @@
 // A case: a line taken apart.
 ghost use Prim.Native.Nat.{_≤_};
 ghost use lib.ListN.{length};
-ghost use Rattle.vectors.specs.Places.{Behind};
+ghost use Rattle.caselines.specs.Places.{Behind};
 
 // The numbers of a case, and where its bytes begin.
 pub struct Case {

@@ -3,8 +3,8 @@ use Prim.Native.Nat.{_≤_}
 use lib.ListN.{length, length-set}
 use mathlib.Core.Path.{_≡_}
 use native.Mathlib.Omega.{arith}
-use Rattle.vectors.proofs.cases.put_run.Statement.{statement}
-use Rattle.vectors.proofs.cases.put_run.Tie as tie
+use Rattle.caselines.proofs.cases.put_run.Statement.{statement}
+use Rattle.caselines.proofs.cases.put_run.Tie as tie
 
 abbrev Inv-loop : tie.InvT-loop
 Inv-loop bytes₀ from value count i₀ left₀ bytes i left = (length bytes ≡ length bytes₀) × (i ≤ length bytes₀)

@@ -2,8 +2,8 @@
 use Prim.Native.Nat.{_-_, _≤_}
 use lib.ListN.{length}
 use native.Mathlib.Omega.{arith}
-use Rattle.vectors.proofs.cases.name_end.Statement.{statement}
-use Rattle.vectors.proofs.cases.name_end.Tie as tie
+use Rattle.caselines.proofs.cases.name_end.Statement.{statement}
+use Rattle.caselines.proofs.cases.name_end.Tie as tie
 
 abbrev Inv-loop : tie.InvT-loop
 Inv-loop line i₀ i = i ≤ length line

@@ -1,9 +1,9 @@
--- `lists::print_words` is safe and ends.
+-- `lists::print_longs` is safe and ends.
 use Prim.Native.Nat.{_-_, _≤_}
 use lib.ListN.{length}
 use native.Mathlib.Omega.{arith}
-use Rattle.vectors.proofs.lists.print_words.Statement.{statement}
-use Rattle.vectors.proofs.lists.print_words.Tie as tie
+use Rattle.caselines.proofs.lists.print_longs.Statement.{statement}
+use Rattle.caselines.proofs.lists.print_longs.Tie as tie
 
 abbrev Inv-loop : tie.InvT-loop
 Inv-loop list run₀ i₀ run i = (i ≤ length list) × (run .count ≤ i)
@@ -14,14 +14,11 @@ abbrev μ-loop : tie.MeasureT-loop
 loop-holds : tie.Need-loop-holds Inv-loop μ-loop
 loop-holds c = omega arith
 
-mul-word : tie.Need-mul-word Inv-loop μ-loop
-mul-word c = omega arith
+mul-one-more : tie.Need-mul-one-more Inv-loop μ-loop
+mul-one-more c = omega arith
 
-shared-slice-read-word : tie.Need-shared-slice-read-word Inv-loop μ-loop
-shared-slice-read-word c = omega arith
-
-word-requires : tie.Need-word-requires Inv-loop μ-loop
-word-requires c κs = tt
+shared-slice-read-one-more : tie.Need-shared-slice-read-one-more Inv-loop μ-loop
+shared-slice-read-one-more c = omega arith
 
 one-more-requires : tie.Need-one-more-requires Inv-loop μ-loop
 one-more-requires c κs = omega arith
@@ -41,16 +38,15 @@ print-run-requires c κs = tt
 returns : tie.Need-returns Inv-loop μ-loop
 returns c = omega arith
 
-pub print-words-spec : {M : Type 1} → statement M
-print-words-spec =
+pub print-longs-spec : {M : Type 1} → statement M
+print-longs-spec =
     tie.close
     (tie.spec
     Inv-loop
     μ-loop
     loop-holds
-    mul-word
-    shared-slice-read-word
-    word-requires
+    mul-one-more
+    shared-slice-read-one-more
     one-more-requires
     add-i
     loop-less

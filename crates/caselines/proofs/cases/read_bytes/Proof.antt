@@ -3,8 +3,8 @@ use Prim.Native.Nat.{_-_, _≤_}
 use lib.ListN.{length}
 use mathlib.Core.Path.{_≡_, _∙_}
 use native.Mathlib.Omega.{arith}
-use Rattle.vectors.proofs.cases.read_bytes.Statement.{statement}
-use Rattle.vectors.proofs.cases.read_bytes.Tie as tie
+use Rattle.caselines.proofs.cases.read_bytes.Statement.{statement}
+use Rattle.caselines.proofs.cases.read_bytes.Tie as tie
 
 abbrev Inv-loop : tie.InvT-loop
 Inv-loop line from bytes₀ n₀ at₀ bytes n at = (length bytes ≡ length bytes₀) × (n ≤ length bytes₀)

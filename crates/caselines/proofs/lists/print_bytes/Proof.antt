@@ -2,8 +2,8 @@
 use Prim.Native.Nat.{_-_, _≤_}
 use lib.ListN.{length}
 use native.Mathlib.Omega.{arith}
-use Rattle.vectors.proofs.lists.print_bytes.Statement.{statement}
-use Rattle.vectors.proofs.lists.print_bytes.Tie as tie
+use Rattle.caselines.proofs.lists.print_bytes.Statement.{statement}
+use Rattle.caselines.proofs.lists.print_bytes.Tie as tie
 
 abbrev Inv-loop : tie.InvT-loop
 Inv-loop list run₀ i₀ run i = (i ≤ length list) × (run .count ≤ i)
