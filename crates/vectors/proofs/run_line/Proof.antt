@@ -1,9 +1,9 @@
--- `operations::run_line` is safe: the name and the bytes are parts of what was read.
+-- `run_line` is safe: the name and the bytes are parts of what was read.
 use mathlib.Core.Path.{sym}
 use lib.Seq.{length-take-le}
 use borrow.Author.Needs.{needs}
-use Rattle.vectors.proofs.operations.run_line.Statement.{statement}
-use Rattle.vectors.proofs.operations.run_line.Tie as tie
+use Rattle.vectors.proofs.run_line.Statement.{statement}
+use Rattle.vectors.proofs.run_line.Tie as tie
 
 returns : tie.Need-returns
 returns c = search needs

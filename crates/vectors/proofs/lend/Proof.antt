@@ -1,9 +1,9 @@
--- `operations::lend` is safe: each buffer has the places that it lends.
+-- `lend` is safe: each buffer has the places that it lends.
 use borrow.Author.Needs.{needs}
 use lib.Seq.{length-take-le}
 use mathlib.Core.Path.{sym}
-use Rattle.vectors.proofs.operations.lend.Statement.{statement}
-use Rattle.vectors.proofs.operations.lend.Tie as tie
+use Rattle.vectors.proofs.lend.Statement.{statement}
+use Rattle.vectors.proofs.lend.Tie as tie
 
 cast-lesser : tie.Need-cast-lesser
 cast-lesser c = search needs

@@ -1,15 +1,13 @@
-// The operations, each run on a case and printed.
+// The operations, each run on a case of the program `vectors` and printed.
 ghost use Prim.Native.Nat.{_≤_};
-use caselines::cases;
 use caselines::cases::Case;
 use caselines::lists::print_bar;
 use caselines::lists::print_bytes;
 use caselines::lists::print_longs;
 use caselines::lists::print_number;
 use caselines::lists::print_words;
-use libc::STDOUT_FILENO;
 
-fn lesser(a: usize, b: usize) -> usize
+pub fn lesser(a: usize, b: usize) -> usize
     ensures { λ r. ⌜ (r ≤ a) × (r ≤ b) ⌝ }
 {
     if a < b { a } else { b }
@@ -23,25 +21,25 @@ fn print_left(out: &[u8], work: &[u32]) {
     print_words(work);
 }
 
-fn open(c: Case, bytes: &[u8], out: &mut [u8], work: &mut [u32]) {
+pub fn open(c: Case, bytes: &[u8], out: &mut [u8], work: &mut [u32]) {
     let refusal = filter::area_open(bytes, c.width, c.height, c.connectivity, c.limit, out, work);
     print_number(refusal as u64);
     print_left(out, work);
 }
 
-fn close(c: Case, bytes: &[u8], out: &mut [u8], work: &mut [u32]) {
+pub fn close(c: Case, bytes: &[u8], out: &mut [u8], work: &mut [u32]) {
     let refusal = filter::area_close(bytes, c.width, c.height, c.connectivity, c.limit, out, work);
     print_number(refusal as u64);
     print_left(out, work);
 }
 
-fn maxima(c: Case, bytes: &[u8], out: &mut [u8], work: &mut [u32]) {
+pub fn maxima(c: Case, bytes: &[u8], out: &mut [u8], work: &mut [u32]) {
     let refusal = filter::regional_maxima(bytes, c.width, c.height, c.connectivity, out, work);
     print_number(refusal as u64);
     print_left(out, work);
 }
 
-fn write(c: Case, bytes: &[u8], out: &mut [u8], work: &mut [u32]) {
+pub fn write(c: Case, bytes: &[u8], out: &mut [u8], work: &mut [u32]) {
     let written = record::write_record(bytes, c.width, c.height, c.connectivity, out, work);
     print_number(written.refusal as u64);
     print_number(written.length as u64);
@@ -55,17 +53,17 @@ fn print_head(head: record::Head) {
     print_number(head.connectivity as u64);
 }
 
-fn read(bytes: &[u8], out: &mut [u8], work: &mut [u32]) {
+pub fn read(bytes: &[u8], out: &mut [u8], work: &mut [u32]) {
     print_head(record::read_record(bytes, out, work));
     print_left(out, work);
 }
 
-fn cut(c: Case, bytes: &[u8], out: &mut [u8], work: &mut [u32]) {
+pub fn cut(c: Case, bytes: &[u8], out: &mut [u8], work: &mut [u32]) {
     print_head(record::cut_record(bytes, c.limit, out, work));
     print_left(out, work);
 }
 
-fn file(bytes: &[u8], out: &mut [u8]) {
+pub fn file(bytes: &[u8], out: &mut [u8]) {
     let read = pgm::read_pgm(bytes, out);
     print_number(read.refusal as u64);
     print_number(read.width as u64);
@@ -74,7 +72,7 @@ fn file(bytes: &[u8], out: &mut [u8]) {
     print_bytes(out);
 }
 
-fn text(bytes: &[u8]) {
+pub fn text(bytes: &[u8]) {
     let mut text = io::large_buffer();
     let size = sizetext::size_text(bytes, &mut text);
     print_number(size as u64);
@@ -82,7 +80,7 @@ fn text(bytes: &[u8]) {
     print_bytes(&text[..size]);
 }
 
-fn ink(bytes: &[u8]) {
+pub fn ink(bytes: &[u8]) {
     let mut i: usize = 0;
     while i < bytes.len() {
         print_number(ink::ink_percentage(bytes[i]) as u64);
@@ -120,7 +118,7 @@ fn lend_tables(c: Case, bytes: &[u8], counts: &mut [u32], losses: &mut [u64], wo
     list_sizes(bytes, &mut counts[..first], &mut losses[..second], work);
 }
 
-fn sizes(c: Case, bytes: &[u8], work: &mut [u32]) {
+pub fn sizes(c: Case, bytes: &[u8], work: &mut [u32]) {
     let mut counts = [9u32; 66000];
     let mut losses = [9u64; 66000];
     lend_tables(c, bytes, &mut counts, &mut losses, work);
@@ -199,7 +197,7 @@ fn lend_columns(
     );
 }
 
-fn nodes(c: Case, bytes: &[u8], work: &mut [u32]) {
+pub fn nodes(c: Case, bytes: &[u8], work: &mut [u32]) {
     let mut levels = [9u32; 66000];
     let mut parents = [9u32; 66000];
     let mut areas = [9u32; 66000];
@@ -213,56 +211,4 @@ fn nodes(c: Case, bytes: &[u8], work: &mut [u32]) {
         &mut anchors,
         work,
     );
-}
-
-// Runs the operation that the name's first letter says. Of the two that begin with c, `cut` has three letters.
-fn run(letter: u8, letters: usize, c: Case, bytes: &[u8], out: &mut [u8], work: &mut [u32]) {
-    match letter {
-        b'o' => open(c, bytes, out, work),
-        b'm' => maxima(c, bytes, out, work),
-        b'n' => nodes(c, bytes, work),
-        b'w' => write(c, bytes, out, work),
-        b'r' => read(bytes, out, work),
-        b's' => sizes(c, bytes, work),
-        b'f' => file(bytes, out),
-        b't' => text(bytes),
-        b'i' => ink(bytes),
-        _ => {
-            if letters == 3 {
-                cut(c, bytes, out, work)
-            } else {
-                close(c, bytes, out, work)
-            }
-        }
-    }
-}
-
-// The output and the work space are lent with as many places as the case says.
-fn lend(letter: u8, letters: usize, c: Case, bytes: &[u8], out: &mut [u8], work: &mut [u32]) {
-    let places = lesser(c.places as usize, out.len());
-    let room = lesser(c.room as usize, work.len());
-    run(
-        letter,
-        letters,
-        c,
-        bytes,
-        &mut out[..places],
-        &mut work[..room],
-    );
-}
-
-// Runs the case of a line and prints its line.
-pub fn run_line(line: &[u8]) {
-    if line.len() == 0 {
-        return;
-    }
-    let letters = cases::name_end(line);
-    io::write_all(STDOUT_FILENO, &line[..letters]);
-    let c = cases::read_case(line, letters);
-    let mut bytes = [0u8; 66000];
-    let n = cases::read_bytes(line, c.at, &mut bytes);
-    let mut out = [170u8; 66000];
-    let mut work = [7u32; 528100];
-    lend(line[0], letters, c, &bytes[..n], &mut out, &mut work);
-    io::write_all(STDOUT_FILENO, b"\n");
 }

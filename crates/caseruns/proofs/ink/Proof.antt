@@ -1,9 +1,9 @@
--- `operations::ink` is safe and ends.
+-- `caseruns::ink` is safe and ends.
 use Prim.Native.Nat.{_-_, _≤_}
 use lib.ListN.{length}
 use native.Mathlib.Omega.{arith}
-use Rattle.vectors.proofs.operations.ink.Statement.{statement}
-use Rattle.vectors.proofs.operations.ink.Tie as tie
+use Rattle.caseruns.proofs.ink.Statement.{statement}
+use Rattle.caseruns.proofs.ink.Tie as tie
 
 abbrev Inv-loop : tie.InvT-loop
 Inv-loop bytes i₀ i = i ≤ length bytes

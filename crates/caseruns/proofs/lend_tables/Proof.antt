@@ -1,9 +1,9 @@
--- `operations::lend_tables` is safe: each table has the places that it lends.
+-- `caseruns::lend_tables` is safe: each table has the places that it lends.
 use borrow.Author.Needs.{needs}
 use lib.Seq.{length-take-le}
 use mathlib.Core.Path.{sym}
-use Rattle.vectors.proofs.operations.lend_tables.Statement.{statement}
-use Rattle.vectors.proofs.operations.lend_tables.Tie as tie
+use Rattle.caseruns.proofs.lend_tables.Statement.{statement}
+use Rattle.caseruns.proofs.lend_tables.Tie as tie
 
 cast-lesser : tie.Need-cast-lesser
 cast-lesser c = search needs

@@ -1,9 +1,9 @@
--- `operations::lend_columns` is safe: each column has the places that it lends.
+-- `caseruns::lend_columns` is safe: each column has the places that it lends.
 use borrow.Author.Needs.{needs}
 use lib.Seq.{length-take-le}
 use mathlib.Core.Path.{sym}
-use Rattle.vectors.proofs.operations.lend_columns.Statement.{statement}
-use Rattle.vectors.proofs.operations.lend_columns.Tie as tie
+use Rattle.caseruns.proofs.lend_columns.Statement.{statement}
+use Rattle.caseruns.proofs.lend_columns.Tie as tie
 
 column-places-requires : tie.Need-column-places-requires
 column-places-requires c κs = search needs

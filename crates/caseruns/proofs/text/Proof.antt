@@ -1,10 +1,10 @@
--- `operations::text` is safe: what it prints is the part of the text that was made.
+-- `caseruns::text` is safe: what it prints is the part of the text that was made.
 use Rattle.sizetext.proofs.Files.{made-fits}
 use borrow.Author.Needs.{needs}
 use lib.Seq.{length-take-le}
 use mathlib.Core.Path.{sym}
-use Rattle.vectors.proofs.operations.text.Statement.{statement}
-use Rattle.vectors.proofs.operations.text.Tie as tie
+use Rattle.caseruns.proofs.text.Statement.{statement}
+use Rattle.caseruns.proofs.text.Tie as tie
 
 large-buffer-requires : tie.Need-large-buffer-requires
 large-buffer-requires c κs = search needs
