@@ -1,6 +1,6 @@
 -- What an operation leaves: its refusal, its outputs and the work space, each as an equation.
 use mathlib.Core.Path.{_≡_}
-use mathlib.Core.Bool.{Bool}
+use mathlib.Core.Bool.{Bool, false}
 use mathlib.Core.List.{List}
 use Prim.Native.Nat.{ℕ, _*_, _≤_, min}
 use lib.Dec.{eqb}
@@ -12,6 +12,7 @@ use Rattle.meaning.specs.Plate.{grey, touch}
 use Rattle.meaning.specs.Sets.{nth, pick, table}
 use Rattle.columns.specs.Columns.{Room, col}
 use Rattle.columns.specs.Layout.{ANCHOR, AREA, LEVEL, PARENT}
+use Rattle.plate.specs.Tree.{Planted}
 use Rattle.plate.specs.View.{view}
 
 -- ---- operations with one output, all of whose refusals precede any work. refusal and answer: what the definitions give; r: what was returned
@@ -34,6 +35,15 @@ shortest a b c d = min (min a b) (min c d)
 -- 1, 2, 3, 6, then 5 where any of the four columns is shorter than the number of nodes
 unfoldable pub nodeListRefusal : ℕ → ℕ → ℕ → List ℕ → ℕ → ℕ → ℕ
 nodeListRefusal k w h f places work = treeRefusal k w h (length f) (length (nodesOf k w f)) places work
+
+-- a list with so many places is started: the tree of the plate f stands in the work space, or the list is refused and the work space left as 01 says
+pub record Started (k w h : ℕ) (f : List ℕ) (places : ℕ) (work work′ : List ℕ) (refusal count : ℕ) : Type 0 where
+  pub number : refusal ≡ nodeListRefusal k w h f places (length work)
+  pub counted : count ≡ pick (eqb refusal 0) (length (nodesOf k w f)) 0
+  pub fits : count ≤ places
+  pub stopped : (refusal ≡ 0 → ⊥) → work′ ≡ workAfter (began refusal) (w * h) work
+  pub pixels : refusal ≡ 0 → length f ≡ w * h
+  pub planted : refusal ≡ 0 → Planted false k w f work work′ count
 
 -- a column of the node list: the values of all nodes
 unfoldable pub column : ℕ → ℕ → List ℕ → ((n : ℕ) (near : ℕ → ℕ → Bool) (f : ℕ → ℕ) (xs : List ℕ) → ℕ → ℕ) → List ℕ

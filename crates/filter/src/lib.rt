@@ -5,7 +5,7 @@ ghost use lib.ListN.{length};
 ghost use Rattle.meaning.specs.Answers.{cleanRefusal, maximaRefusal};
 ghost use Rattle.meaning.specs.Opening.{opened, closed};
 ghost use Rattle.meaning.specs.Maxima.{marks};
-ghost use Rattle.filter.specs.Operations.{Answered, cleaned, NodesListed, columns, shortest, Lent, Written};
+ghost use Rattle.filter.specs.Operations.{Answered, cleaned, NodesListed, Started, columns, shortest, Lent, Written};
 
 const ANCHOR: usize = 2;
 
@@ -116,6 +116,7 @@ pub fn regional_maxima(
 }
 
 // What the node list answers: its refusal, or 0 and the number of nodes.
+#[repr(C)]
 pub struct NodeList {
     pub refusal: u32,
     pub count: u32,
@@ -143,6 +144,34 @@ fn shortest(a: usize, b: usize, c: usize, d: usize) -> usize
     ensures { λ r. ⌜ r ≡ shortest a b c d ⌝ }
 {
     lesser(lesser(a, b), lesser(c, d))
+}
+
+// Starts a node list with so many places: the plate's component tree stands in the work space, or the list is refused.
+pub fn start_list(
+    image: &[u8],
+    width: u32,
+    height: u32,
+    connectivity: u32,
+    places: usize,
+    work: &mut [u32],
+) -> NodeList
+    ensures { λ r. ⌜ Started connectivity width height (now (image .entry)) places
+        (now (work .entry)) (now (work .exit)) (r .refusal) (r .count) ⌝ }
+{
+    let n = image.len();
+    let refusal = checks::tree_refusal(connectivity, width, height, n, work.len());
+    if refusal != 0 {
+        return refused(refusal);
+    }
+    let count = platetree::plate_tree(image, false, width, height, connectivity, work);
+    if places < count {
+        columns::clear(work, n);
+        return refused(5);
+    }
+    NodeList {
+        refusal: 0,
+        count: count as u32,
+    }
 }
 
 // Writes the columns of the nodes.
@@ -183,21 +212,21 @@ pub fn node_list(
         (columns (now (levels .exit)) (now (parents .exit)) (now (areas .exit)) (now (anchors .exit)))
         (now (work .entry)) (now (work .exit)) (r .refusal) (r .count) ⌝ }
 {
-    let n = image.len();
-    let refusal = checks::tree_refusal(connectivity, width, height, n, work.len());
-    if refusal != 0 {
-        return refused(refusal);
-    }
-    let count = platetree::plate_tree(image, false, width, height, connectivity, work);
     let places = shortest(levels.len(), parents.len(), areas.len(), anchors.len());
-    if places < count {
-        columns::clear(work, n);
-        return refused(5);
+    let list = start_list(image, width, height, connectivity, places, work);
+    if list.refusal != 0 {
+        return list;
     }
-    write_nodes(work, n, count, levels, parents, areas, anchors);
+    let n = image.len();
+    write_nodes(
+        work,
+        n,
+        list.count as usize,
+        levels,
+        parents,
+        areas,
+        anchors,
+    );
     columns::clear(work, n);
-    NodeList {
-        refusal: 0,
-        count: count as u32,
-    }
+    list
 }

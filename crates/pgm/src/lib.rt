@@ -57,6 +57,7 @@ pub enum Header {
 }
 
 // What reading a plate file answers: 0 or the refusal, and the sizes, which are 0 where it refuses.
+#[repr(C)]
 pub struct PgmRead {
     pub refusal: u32,
     pub width: u32,

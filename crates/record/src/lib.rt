@@ -11,12 +11,14 @@ ghost use Rattle.record.specs.Reading.{ReadRecord, CutRecord, ListedSize
 use readtree::Found;
 
 // What writing answers: the length of the record, in bytes.
+#[repr(C)]
 pub struct Written {
     pub refusal: u32,
     pub length: usize,
 }
 
 // What reading and cutting answer: the sizes and the connectivity of the record's plate.
+#[repr(C)]
 pub struct Head {
     pub refusal: u32,
     pub width: u32,
@@ -25,6 +27,7 @@ pub struct Head {
 }
 
 // What the size list answers: also the number of nodes and the darkest grey.
+#[repr(C)]
 pub struct SizeHead {
     pub refusal: u32,
     pub width: u32,

@@ -1,0 +1,2 @@
+-- The node list as one list of node entries.
+pub mod Entries

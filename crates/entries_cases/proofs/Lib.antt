@@ -1,0 +1,2 @@
+-- A local array that is lent.
+pub mod Local

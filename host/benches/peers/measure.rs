@@ -1,0 +1,61 @@
+//! Times of the operations.
+
+use livukoe::{Connectivity, Plate};
+
+use crate::clock;
+use crate::operations::{Bench, OPERATIONS, WORKERS};
+
+/// The best times of an operation on a picture, by worker.
+pub struct Timing {
+    pub operation: &'static str,
+    pub kind: &'static str,
+    pub connectivity: Connectivity,
+    pub pixels: usize,
+    pub seconds: [f64; 3],
+}
+
+/// Operations that go by the connectivity differently are measured for both.
+fn measured(operation: &str, connectivity: Connectivity) -> bool {
+    connectivity == Connectivity::Four || operation == "open"
+}
+
+/// More runs where they are short.
+fn runs(pixels: usize) -> usize {
+    match pixels {
+        0..=1_100_000 => 9,
+        1_100_001..=4_200_000 => 5,
+        _ => 3,
+    }
+}
+
+/// Measures all operations on a plate.
+pub fn all(kind: &'static str, plate: &Plate, connectivity: Connectivity) -> Vec<Timing> {
+    let mut bench = Bench::new(plate, connectivity);
+    let operations = OPERATIONS.into_iter();
+    operations
+        .filter(|operation| measured(operation, connectivity))
+        .map(|operation| Timing {
+            operation,
+            kind,
+            connectivity,
+            pixels: plate.greys().len(),
+            seconds: best_times(&mut bench, operation, runs(plate.greys().len())),
+        })
+        .collect()
+}
+
+/// The workers in turn, so that what disturbs one disturbs all; what they write must be the same.
+fn best_times(bench: &mut Bench, operation: &str, runs: usize) -> [f64; 3] {
+    let mut best = [f64::MAX; 3];
+    let mut answer = None;
+    for run in 0..runs {
+        for (worker, best) in WORKERS.into_iter().zip(&mut best) {
+            *best = best.min(clock::seconds(|| bench.run(operation, worker)));
+            if run == 0 {
+                let first = answer.get_or_insert_with(|| bench.buffers.clone());
+                assert!(*first == bench.buffers, "{operation}: the answers differ");
+            }
+        }
+    }
+    best
+}

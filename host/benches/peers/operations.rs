@@ -1,0 +1,152 @@
+//! Each operation, proved and in plain Rust, over buffers that are allocated once.
+
+use livukoe::lent::{self as proved, Image, NodeColumns};
+use livukoe::{Connectivity, Plate};
+
+use crate::{twin, twin_records};
+
+/// The limit of openings, closings and cuts.
+pub const LIMIT: u32 = 64;
+
+/// The operations, in the order of the tables.
+pub const OPERATIONS: [&str; 8] = [
+    "open", "close", "maxima", "nodes", "record", "plate", "cut", "sizelist",
+];
+
+/// Who does the work.
+#[derive(Clone, Copy, PartialEq)]
+pub enum Worker {
+    Proved,
+    /// Plain Rust, whose indices are checked.
+    Plain,
+    /// The same without the checks.
+    Unchecked,
+}
+
+pub const WORKERS: [Worker; 3] = [Worker::Proved, Worker::Plain, Worker::Unchecked];
+
+/// A plate with all that an operation needs.
+pub struct Bench<'a> {
+    plate: &'a Plate,
+    connectivity: Connectivity,
+    record: Vec<u8>,
+    pub buffers: Buffers,
+}
+
+/// What an operation writes.
+#[derive(Clone, PartialEq)]
+pub struct Buffers {
+    pub greys: Vec<u8>,
+    bytes: Vec<u8>,
+    columns: [Vec<u32>; 4],
+    losses: Vec<u64>,
+    work: Vec<u32>,
+}
+
+impl<'a> Bench<'a> {
+    pub fn new(plate: &'a Plate, connectivity: Connectivity) -> Bench<'a> {
+        let pixels = plate.greys().len();
+        let record = plate.record(connectivity).expect("a record");
+        Bench {
+            plate,
+            connectivity,
+            buffers: Buffers {
+                greys: vec![1; pixels],
+                bytes: vec![1; record.bytes().len()],
+                columns: std::array::from_fn(|_| vec![1; pixels]),
+                losses: vec![1; pixels],
+                work: vec![1; 8 * pixels],
+            },
+            record: record.bytes().to_vec(),
+        }
+    }
+
+    /// Does an operation once.
+    pub fn run(&mut self, operation: &str, worker: Worker) {
+        match worker {
+            Worker::Proved => self.run_proved(operation),
+            Worker::Plain => self.run_twin::<true>(operation),
+            Worker::Unchecked => self.run_twin::<false>(operation),
+        }
+    }
+
+    fn run_proved(&mut self, operation: &str) {
+        let lent = self.parts();
+        let refusal = match operation {
+            "open" => proved::area_open(lent.image, LIMIT, lent.greys, lent.work),
+            "close" => proved::area_close(lent.image, LIMIT, lent.greys, lent.work),
+            "maxima" => proved::regional_maxima(lent.image, lent.greys, lent.work),
+            "nodes" => proved::node_list(lent.image, lent.columns, lent.work).refusal,
+            "record" => proved::write_record(lent.image, lent.bytes, lent.work).refusal,
+            "plate" => proved::read_record(lent.record, lent.greys, lent.work).refusal,
+            "cut" => proved::cut_record(lent.record, LIMIT, lent.greys, lent.work).refusal,
+            "sizelist" => {
+                proved::size_list(lent.record, lent.columns.areas, lent.losses, lent.work).refusal
+            }
+            _ => panic!("no operation is called {operation}"),
+        };
+        assert_eq!(refusal, 0, "{operation}");
+    }
+
+    fn run_twin<const CHECKED: bool>(&mut self, operation: &str) {
+        let lent = self.parts();
+        match operation {
+            "open" => twin::area_open::<CHECKED>(lent.image, LIMIT, lent.greys, lent.work),
+            "close" => twin::area_close::<CHECKED>(lent.image, LIMIT, lent.greys, lent.work),
+            "maxima" => twin::regional_maxima::<CHECKED>(lent.image, lent.greys, lent.work),
+            "nodes" => drop(twin::node_list::<CHECKED>(
+                lent.image,
+                lent.columns,
+                lent.work,
+            )),
+            "record" => drop(twin_records::write_record::<CHECKED>(
+                lent.image, lent.bytes, lent.work,
+            )),
+            "plate" => twin_records::read_record::<CHECKED>(lent.record, lent.greys, lent.work),
+            "cut" => twin_records::cut_record::<CHECKED>(lent.record, LIMIT, lent.greys, lent.work),
+            "sizelist" => {
+                twin_records::size_list::<CHECKED>(
+                    lent.record,
+                    lent.columns.areas,
+                    lent.losses,
+                    lent.work,
+                );
+            }
+            _ => panic!("no operation is called {operation}"),
+        }
+    }
+
+    /// What an operation is lent.
+    fn parts(&mut self) -> Parts<'_> {
+        let [levels, parents, areas, anchors] = &mut self.buffers.columns;
+        Parts {
+            image: Image {
+                greys: self.plate.greys(),
+                width: self.plate.width(),
+                height: self.plate.height(),
+                connectivity: self.connectivity.number(),
+            },
+            record: &self.record,
+            greys: &mut self.buffers.greys,
+            bytes: &mut self.buffers.bytes,
+            columns: NodeColumns {
+                levels,
+                parents,
+                areas,
+                anchors,
+            },
+            losses: &mut self.buffers.losses,
+            work: &mut self.buffers.work,
+        }
+    }
+}
+
+struct Parts<'a> {
+    image: Image<'a>,
+    record: &'a [u8],
+    greys: &'a mut [u8],
+    bytes: &'a mut [u8],
+    columns: NodeColumns<'a>,
+    losses: &'a mut [u64],
+    work: &'a mut [u32],
+}

@@ -1,0 +1,166 @@
+//! The report as Markdown.
+
+use std::fmt::Write;
+use std::fs;
+use std::process::Command;
+
+use livukoe::pictures::KINDS;
+use livukoe::Connectivity;
+
+use crate::measure::Timing;
+use crate::operations::{LIMIT, OPERATIONS};
+use crate::peers::{PeerTiming, ITK_OPENING, SCIKIT_OPENING, SCIKIT_TREE};
+
+/// What is ahead of the tables.
+const FRONT: &str = "# Benchmarks
+
+Written by `make bench`. Each time is the best of several runs, in processor time of one thread. *Plain Rust* is the
+same algorithm, passes and work space in Rust, whose indices are checked; *unchecked* is the same source without those
+checks. The three take turns, and their answers are compared. A ratio below 1 says that the proved code is faster.
+
+![time against size](benchmarks.svg)
+";
+
+/// The report.
+pub fn text(timings: &[Timing], peers: &[PeerTiming]) -> String {
+    let mut text = FRONT.to_owned();
+    let _ = write!(text, "\n## Machine\n\n{}", machine()); // a string takes every write
+    let _ = write!(text, "\n## Against peers\n\n{}", peer_table(timings, peers));
+    for connectivity in [Connectivity::Four, Connectivity::Eight] {
+        for operation in OPERATIONS {
+            let of_operation = |timing: &&Timing| {
+                timing.operation == operation && timing.connectivity == connectivity
+            };
+            let rows: Vec<&Timing> = timings.iter().filter(of_operation).collect();
+            if !rows.is_empty() {
+                let title = format!("{operation}, connectivity {connectivity}");
+                let _ = write!(
+                    text,
+                    "\n## {title}: nanoseconds a pixel\n\n{}",
+                    table(&rows)
+                );
+            }
+        }
+    }
+    text
+}
+
+/// The machine in a few lines.
+fn machine() -> String {
+    let line = |file: &str, name: &str| {
+        let text = fs::read_to_string(file).unwrap_or_default();
+        let found = text.lines().find(|line| line.starts_with(name));
+        let value = found.and_then(|line| line.split_once(':'));
+        value.map_or("unknown".to_owned(), |(_, value)| value.trim().to_owned())
+    };
+    let said = |program: &str, word: &str| {
+        let output = Command::new(program).arg(word).output();
+        let bytes = output.map(|output| output.stdout).unwrap_or_default();
+        String::from_utf8_lossy(&bytes).trim().to_owned()
+    };
+    let processors = std::thread::available_parallelism().map_or(1, usize::from);
+    format!(
+        "- {}, cache {}, {processors} processors, memory {}\n- Linux {}, {}, {}\n",
+        line("/proc/cpuinfo", "model name"),
+        line("/proc/cpuinfo", "cache size"),
+        line("/proc/meminfo", "MemTotal"),
+        said("uname", "-r"),
+        said("rustc", "--version"),
+        said("rt", "version"),
+    )
+}
+
+/// Nanoseconds a pixel by size, and the ratios to plain Rust over the sizes.
+fn table(timings: &[&Timing]) -> String {
+    let mut sizes: Vec<usize> = timings.iter().map(|timing| timing.pixels).collect();
+    sizes.sort_unstable();
+    sizes.dedup();
+    let mut text = String::from("| picture |");
+    for size in &sizes {
+        text += &format!(" {} |", size_name(*size));
+    }
+    text += " / plain Rust | / unchecked |\n|---|";
+    text += &"---|".repeat(sizes.len() + 2);
+    text += "\n";
+    for kind in KINDS {
+        let row: Vec<&&Timing> = timings
+            .iter()
+            .filter(|timing| timing.kind == kind)
+            .collect();
+        text += &format!("| {kind} |");
+        for timing in &row {
+            text += &format!(" {:.1} |", timing.seconds[0] * 1e9 / timing.pixels as f64);
+        }
+        text += &format!(" {} | {} |\n", ratios(&row, 1), ratios(&row, 2));
+    }
+    text
+}
+
+/// The least and the greatest ratio of the proved function to a worker.
+fn ratios(row: &[&&Timing], worker: usize) -> String {
+    let ratios = row
+        .iter()
+        .map(|timing| timing.seconds[0] / timing.seconds[worker]);
+    let (least, greatest) = ratios.fold((f64::MAX, 0f64), |(least, greatest), ratio| {
+        (least.min(ratio), greatest.max(ratio))
+    });
+    format!("{least:.2} to {greatest:.2}")
+}
+
+pub fn size_name(pixels: usize) -> String {
+    match pixels >> 20 {
+        0 => format!("{} K", pixels >> 10),
+        millions => format!("{millions} M"),
+    }
+}
+
+/// How many times as long a peer takes, at the largest size that it was measured at.
+fn peer_table(timings: &[Timing], peers: &[PeerTiming]) -> String {
+    if peers.is_empty() {
+        return "No peer is installed: see `make peers`.\n".to_owned();
+    }
+    let largest = peers.iter().map(|timing| timing.pixels).max().unwrap_or(0);
+    let mut text = format!(
+        "How many times as long a peer takes, on {} pixels, connectivity 4, limit {LIMIT}: area opening against `open`, \
+         the tree against `nodes`. In brackets: how many pixels of its opening are wrong.\n\n\
+         | picture | `open`, s | `nodes`, s | {ITK_OPENING} | {SCIKIT_OPENING} | {SCIKIT_TREE} |\n\
+         |---|---|---|---|---|---|\n",
+        size_name(largest)
+    );
+    for kind in KINDS {
+        let own = |operation: &str| {
+            let mut rows = timings.iter().filter(|timing| {
+                timing.operation == operation && timing.kind == kind && timing.pixels == largest
+            });
+            rows.next().map_or(f64::NAN, |timing| timing.seconds[0])
+        };
+        let (open, nodes) = (own("open"), own("nodes"));
+        text += &format!("| {kind} | {open:.3} | {nodes:.3} |");
+        for (peer, ours) in [
+            (ITK_OPENING, open),
+            (SCIKIT_OPENING, open),
+            (SCIKIT_TREE, nodes),
+        ] {
+            let mut rows = peers.iter().filter(|timing| {
+                timing.peer == peer && timing.kind == kind && timing.pixels == largest
+            });
+            text += &format!(
+                " {} |",
+                rows.next().map_or("-".to_owned(), |row| times(row, ours))
+            );
+        }
+        text += "\n";
+    }
+    text
+}
+
+fn times(timing: &PeerTiming, ours: f64) -> String {
+    let Some(seconds) = timing.seconds else {
+        return "crashes".to_owned();
+    };
+    let wrong = match timing.differing {
+        0 => String::new(),
+        differing => format!(" ({differing})"),
+    };
+    format!("{:.1}{wrong}", seconds / ours)
+}

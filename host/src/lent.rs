@@ -1,0 +1,270 @@
+//! The proved functions over lent slices, as C sees them, without any allocation.
+//!
+//! Each answers 0 in `refusal`, or the number of a refusal (see [`crate::Refusal`]) and zeros elsewhere. An output may be
+//! longer than the answer; its excess stays as it was, and so does all of it on a refusal. The work space has 8 numbers
+//! for each pixel; what is in it does not matter, and its first 8 × pixels numbers are zero afterwards unless 6 or a
+//! refusal ahead of it is answered.
+
+mod c {
+    use super::{NodeCount, PlateHead, RecordHead, RecordLength, SizeHead};
+
+    extern "C" {
+        pub fn livukoe_area_open(
+            image: *const u8,
+            image_length: usize,
+            width: u32,
+            height: u32,
+            connectivity: u32,
+            limit: u32,
+            out: *mut u8,
+            out_length: usize,
+            work: *mut u32,
+            work_length: usize,
+        ) -> u32;
+
+        pub fn livukoe_area_close(
+            image: *const u8,
+            image_length: usize,
+            width: u32,
+            height: u32,
+            connectivity: u32,
+            limit: u32,
+            out: *mut u8,
+            out_length: usize,
+            work: *mut u32,
+            work_length: usize,
+        ) -> u32;
+
+        pub fn livukoe_regional_maxima(
+            image: *const u8,
+            image_length: usize,
+            width: u32,
+            height: u32,
+            connectivity: u32,
+            out: *mut u8,
+            out_length: usize,
+            work: *mut u32,
+            work_length: usize,
+        ) -> u32;
+
+        pub fn livukoe_node_list(
+            image: *const u8,
+            image_length: usize,
+            width: u32,
+            height: u32,
+            connectivity: u32,
+            levels: *mut u32,
+            levels_length: usize,
+            parents: *mut u32,
+            parents_length: usize,
+            areas: *mut u32,
+            areas_length: usize,
+            anchors: *mut u32,
+            anchors_length: usize,
+            work: *mut u32,
+            work_length: usize,
+        ) -> NodeCount;
+
+        pub fn livukoe_read_pgm(
+            file: *const u8,
+            file_length: usize,
+            out: *mut u8,
+            out_length: usize,
+        ) -> PlateHead;
+
+        pub fn livukoe_write_record(
+            image: *const u8,
+            image_length: usize,
+            width: u32,
+            height: u32,
+            connectivity: u32,
+            out: *mut u8,
+            out_length: usize,
+            work: *mut u32,
+            work_length: usize,
+        ) -> RecordLength;
+
+        pub fn livukoe_read_record(
+            bytes: *const u8,
+            bytes_length: usize,
+            out: *mut u8,
+            out_length: usize,
+            work: *mut u32,
+            work_length: usize,
+        ) -> RecordHead;
+
+        pub fn livukoe_cut_record(
+            bytes: *const u8,
+            bytes_length: usize,
+            limit: u32,
+            out: *mut u8,
+            out_length: usize,
+            work: *mut u32,
+            work_length: usize,
+        ) -> RecordHead;
+
+        pub fn livukoe_size_list(
+            bytes: *const u8,
+            bytes_length: usize,
+            counts: *mut u32,
+            counts_length: usize,
+            losses: *mut u64,
+            losses_length: usize,
+            work: *mut u32,
+            work_length: usize,
+        ) -> SizeHead;
+
+        pub fn livukoe_ink_percentage(grey: u8) -> u8;
+    }
+}
+
+/// What the node list answers.
+#[repr(C)]
+#[derive(Clone, Copy, Debug, Default, PartialEq, Eq)]
+pub struct NodeCount {
+    pub refusal: u32,
+    pub count: u32,
+}
+
+/// What reading a plate file answers.
+#[repr(C)]
+#[derive(Clone, Copy, Debug, Default, PartialEq, Eq)]
+pub struct PlateHead {
+    pub refusal: u32,
+    pub width: u32,
+    pub height: u32,
+}
+
+/// What writing a record answers: its length in bytes.
+#[repr(C)]
+#[derive(Clone, Copy, Debug, Default, PartialEq, Eq)]
+pub struct RecordLength {
+    pub refusal: u32,
+    pub length: usize,
+}
+
+/// What reading a record and cutting it answer.
+#[repr(C)]
+#[derive(Clone, Copy, Debug, Default, PartialEq, Eq)]
+pub struct RecordHead {
+    pub refusal: u32,
+    pub width: u32,
+    pub height: u32,
+    pub connectivity: u32,
+}
+
+/// What the size list answers.
+#[repr(C)]
+#[derive(Clone, Copy, Debug, Default, PartialEq, Eq)]
+pub struct SizeHead {
+    pub refusal: u32,
+    pub width: u32,
+    pub height: u32,
+    pub connectivity: u32,
+    pub nodes: u32,
+    pub darkest: u32,
+}
+
+/// A plate as a caller has it, with the connectivity that an operation goes by. Nothing is checked here.
+#[derive(Clone, Copy, Debug)]
+pub struct Image<'a> {
+    pub greys: &'a [u8],
+    pub width: u32,
+    pub height: u32,
+    pub connectivity: u32,
+}
+
+/// The columns of a node list.
+#[derive(Debug)]
+pub struct NodeColumns<'a> {
+    pub levels: &'a mut [u32],
+    pub parents: &'a mut [u32],
+    pub areas: &'a mut [u32],
+    pub anchors: &'a mut [u32],
+}
+
+/// Calls a C function. `read s` and `write s` pass the pointer and the length of a slice, `plate p` what an [`Image`] has,
+/// and any other name itself.
+macro_rules! call {
+    // SAFETY: the slices are borrowed for the whole call, the written ones mutably, so that they are valid and do not
+    // overlap. The proved functions ask nothing else.
+    (@ $function:expr, [$($passed:expr,)*]) => { unsafe { $function($($passed),*) } };
+    (@ $function:expr, [$($passed:expr,)*] read $slice:ident, $($rest:tt)*) => {
+        call!(@ $function, [$($passed,)* $slice.as_ptr(), $slice.len(),] $($rest)*)
+    };
+    (@ $function:expr, [$($passed:expr,)*] write $slice:ident, $($rest:tt)*) => {
+        call!(@ $function, [$($passed,)* $slice.as_mut_ptr(), $slice.len(),] $($rest)*)
+    };
+    (@ $function:expr, [$($passed:expr,)*] plate $image:ident, $($rest:tt)*) => {{
+        let Image { greys, width, height, connectivity } = $image;
+        call!(@ $function, [$($passed,)*] read greys, width, height, connectivity, $($rest)*)
+    }};
+    (@ $function:expr, [$($passed:expr,)*] $value:ident, $($rest:tt)*) => {
+        call!(@ $function, [$($passed,)* $value,] $($rest)*)
+    };
+    ($function:expr, $($rest:tt)*) => { call!(@ $function, [] $($rest)*,) };
+}
+
+/// The area opening of a plate at a limit.
+pub fn area_open(image: Image, limit: u32, out: &mut [u8], work: &mut [u32]) -> u32 {
+    call!(c::livukoe_area_open, plate image, limit, write out, write work)
+}
+
+/// The area closing of a plate at a limit.
+pub fn area_close(image: Image, limit: u32, out: &mut [u8], work: &mut [u32]) -> u32 {
+    call!(c::livukoe_area_close, plate image, limit, write out, write work)
+}
+
+/// Marks the regional maxima of a plate: 1 inside one, 0 elsewhere.
+pub fn regional_maxima(image: Image, out: &mut [u8], work: &mut [u32]) -> u32 {
+    call!(c::livukoe_regional_maxima, plate image, write out, write work)
+}
+
+/// The nodes of a plate, a column for each of level, parent (0 for the root), area and anchor.
+pub fn node_list(image: Image, columns: NodeColumns, work: &mut [u32]) -> NodeCount {
+    let NodeColumns {
+        levels,
+        parents,
+        areas,
+        anchors,
+    } = columns;
+    call!(
+        c::livukoe_node_list,
+        plate image, write levels, write parents, write areas, write anchors, write work
+    )
+}
+
+/// Reads a plate file.
+pub fn read_pgm(file: &[u8], out: &mut [u8]) -> PlateHead {
+    call!(c::livukoe_read_pgm, read file, write out)
+}
+
+/// Writes the record of a plate with its connectivity.
+pub fn write_record(image: Image, out: &mut [u8], work: &mut [u32]) -> RecordLength {
+    call!(c::livukoe_write_record, plate image, write out, write work)
+}
+
+/// Reads a record: its plate.
+pub fn read_record(bytes: &[u8], out: &mut [u8], work: &mut [u32]) -> RecordHead {
+    call!(c::livukoe_read_record, read bytes, write out, write work)
+}
+
+/// Cuts a record at a limit.
+pub fn cut_record(bytes: &[u8], limit: u32, out: &mut [u8], work: &mut [u32]) -> RecordHead {
+    call!(c::livukoe_cut_record, read bytes, limit, write out, write work)
+}
+
+/// The size list of a record: at place a - 1 the number of nodes of area a, and the grey that is lost at it.
+pub fn size_list(
+    bytes: &[u8],
+    counts: &mut [u32],
+    losses: &mut [u64],
+    work: &mut [u32],
+) -> SizeHead {
+    call!(c::livukoe_size_list, read bytes, write counts, write losses, write work)
+}
+
+/// The ink percentage of a grey.
+pub fn ink_percentage(grey: u8) -> u8 {
+    call!(c::livukoe_ink_percentage, grey)
+}

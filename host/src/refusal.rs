@@ -1,0 +1,125 @@
+//! Refusals, in words.
+
+use std::error::Error;
+use std::fmt;
+
+/// Why an operation was refused. The discriminants are the numbers of the refusals.
+#[derive(Clone, Copy, Debug, PartialEq, Eq, Hash)]
+#[non_exhaustive]
+pub enum Refusal {
+    Connectivity = 1,
+    Grid = 2,
+    PlateLength = 3,
+    Limit = 4,
+    OutputShort = 5,
+    WorkShort = 6,
+    Letters = 10,
+    Header = 11,
+    GreatestGrey = 12,
+    RasterShort = 14,
+    RasterLong = 15,
+    FieldUnended = 20,
+    FieldForm = 21,
+    FieldRange = 22,
+    RecordLong = 23,
+    NotCanonical = 24,
+}
+
+/// Each refusal with what it means.
+const MEANINGS: [(Refusal, &str); 16] = [
+    (Refusal::Connectivity, "the connectivity is neither 4 nor 8"),
+    (
+        Refusal::Grid,
+        "the width or the height is not from 1 to 32768, or there are more than 16777216 pixels",
+    ),
+    (
+        Refusal::PlateLength,
+        "the number of greys is not the width times the height",
+    ),
+    (
+        Refusal::Limit,
+        "the limit is 0 or above the number of pixels",
+    ),
+    (
+        Refusal::OutputShort,
+        "an output is too short for the answer",
+    ),
+    (
+        Refusal::WorkShort,
+        "the work space has fewer than 8 numbers for each pixel",
+    ),
+    (Refusal::Letters, "the plate file does not begin with P5"),
+    (
+        Refusal::Header,
+        "the plate file's header lacks a number or a gap, or has one that is malformed",
+    ),
+    (
+        Refusal::GreatestGrey,
+        "the plate file's greatest grey is not 255",
+    ),
+    (
+        Refusal::RasterShort,
+        "the plate file ends before its last pixel",
+    ),
+    (
+        Refusal::RasterLong,
+        "the plate file has bytes behind its last pixel",
+    ),
+    (Refusal::FieldUnended, "the record ends inside a field"),
+    (
+        Refusal::FieldForm,
+        "a field of the record is not in its shortest form, or is too large",
+    ),
+    (
+        Refusal::FieldRange,
+        "a field of the record is outside its range",
+    ),
+    (
+        Refusal::RecordLong,
+        "the record has bytes behind its last field",
+    ),
+    (
+        Refusal::NotCanonical,
+        "the record is not the one that its plate has",
+    ),
+];
+
+impl Refusal {
+    /// The refusal's number.
+    pub fn number(self) -> u32 {
+        self as u32
+    }
+
+    /// What the refusal means.
+    pub fn meaning(self) -> &'static str {
+        let (_, meaning) = MEANINGS
+            .iter()
+            .find(|(refusal, _)| *refusal == self)
+            .expect("every refusal has a meaning");
+        meaning
+    }
+
+    /// Nothing for 0, else the refusal with this number.
+    ///
+    /// # Panics
+    ///
+    /// Where no operation has a refusal of that number.
+    pub(crate) fn check(number: u32) -> Result<(), Refusal> {
+        if number == 0 {
+            return Ok(());
+        }
+        let (refusal, _) = MEANINGS
+            .iter()
+            .find(|(refusal, _)| refusal.number() == number)
+            .unwrap_or_else(|| panic!("no refusal has the number {number}"));
+        Err(*refusal)
+    }
+}
+
+impl fmt::Display for Refusal {
+    fn fmt(&self, f: &mut fmt::Formatter) -> fmt::Result {
+        write!(f, "refused {}: {}", self.number(), self.meaning())
+    }
+}
+
+impl Error for Refusal {}

@@ -1,0 +1,188 @@
+//! Large plates, which the second program cannot do, by what is cheap to check: idempotence, nowhere lighter, the cut of
+//! the record, the totals of the size list, areas about 65,536.
+
+mod common;
+
+use common::Chance;
+use livukoe::pictures::{self, picture};
+use livukoe::{Connectivity, Plate};
+
+const BOTH: [Connectivity; 2] = [Connectivity::Four, Connectivity::Eight];
+
+fn total(plate: &Plate) -> u64 {
+    plate.greys().iter().map(|&grey| u64::from(grey)).sum()
+}
+
+fn negative(plate: &Plate) -> Plate {
+    let greys = plate.greys().iter().map(|grey| 255 - grey).collect();
+    Plate::new(plate.width(), plate.height(), greys)
+}
+
+fn assert_nowhere_lighter(one: &Plate, other: &Plate) {
+    let mut pairs = one.greys().iter().zip(other.greys());
+    assert!(pairs.all(|(grey, bound)| grey <= bound));
+}
+
+/// What holds of opening and closing at a limit.
+fn check_cleaning(plate: &Plate, connectivity: Connectivity, limit: u32) {
+    let opened = plate.area_open(connectivity, limit).expect("an opening");
+    assert_nowhere_lighter(&opened, plate);
+    let again = opened.area_open(connectivity, limit).expect("an opening");
+    assert_eq!(again, opened, "opening twice");
+    let smaller = opened
+        .area_open(connectivity, limit.div_ceil(2))
+        .expect("an opening");
+    assert_eq!(smaller, opened, "opening at a smaller limit");
+    let closed = negative(plate)
+        .area_close(connectivity, limit)
+        .expect("a closing");
+    assert_eq!(negative(&closed), opened, "closing the negative");
+}
+
+/// What holds of a plate's record.
+fn check_record(plate: &Plate, connectivity: Connectivity, limit: u32) {
+    let record = plate.record(connectivity).expect("a record");
+    assert_eq!(record.plate().expect("its plate"), *plate);
+    let opened = plate.area_open(connectivity, limit).expect("an opening");
+    assert_eq!(record.cut(limit).expect("a cut"), opened);
+    let sizes = record.sizes().expect("a size list");
+    let lost: u64 = sizes.sizes().map(|size| size.loss).sum();
+    let rest = u64::from(sizes.darkest()) * plate.greys().len() as u64;
+    assert_eq!(lost + rest, total(plate), "all grey is lost or rests");
+    let below = sizes.sizes().filter(|size| size.area < limit as usize);
+    let lost_below: u64 = below.map(|size| size.loss).sum();
+    assert_eq!(
+        total(plate) - lost_below,
+        total(&opened),
+        "lost below the limit"
+    );
+    let counted: u64 = sizes.sizes().map(|size| u64::from(size.count)).sum();
+    assert_eq!(
+        counted + 1,
+        u64::from(sizes.nodes()),
+        "every node but the root"
+    );
+}
+
+/// What holds of a plate's nodes and its maxima.
+fn check_nodes(plate: &Plate, connectivity: Connectivity) {
+    let nodes = plate.nodes(connectivity).expect("nodes");
+    let root = nodes.get(0).expect("a root");
+    assert_eq!(root.area as usize, plate.greys().len());
+    let mut leaf = vec![true; nodes.len()];
+    for (number, node) in nodes.iter().enumerate().skip(1) {
+        let parent = nodes.get(node.parent as usize).expect("a parent");
+        assert!(
+            node.parent < number as u32 && parent.level < node.level && parent.area > node.area
+        );
+        assert_eq!(u32::from(plate.greys()[node.anchor as usize]), node.level);
+        leaf[node.parent as usize] = false;
+    }
+    let marks = plate.regional_maxima(connectivity).expect("marks");
+    let marked: u64 = total(&marks);
+    let leaves = nodes.iter().zip(&leaf).filter(|(_, &leaf)| leaf);
+    let area: u64 = leaves.map(|(node, _)| u64::from(node.area)).sum();
+    assert_eq!(marked, area, "maxima are the leaves");
+}
+
+#[test]
+fn every_kind_of_picture() {
+    for kind in pictures::KINDS {
+        for connectivity in BOTH {
+            let plate = picture(kind, 700, 500);
+            for limit in [1, 2, 64, 65_536, 350_000] {
+                check_cleaning(&plate, connectivity, limit);
+            }
+            check_record(&plate, connectivity, 64);
+            check_nodes(&plate, connectivity);
+        }
+    }
+}
+
+#[test]
+fn the_largest_plates() {
+    for (kind, width, height) in [
+        ("noise", 4096, 4096),
+        ("terrain", 32_768, 512),
+        ("serpentine", 512, 32_768),
+    ] {
+        let plate = picture(kind, width, height);
+        check_cleaning(&plate, Connectivity::Four, 65_536);
+        check_record(&plate, Connectivity::Eight, 100);
+        check_nodes(&plate, Connectivity::Four);
+    }
+}
+
+#[test]
+fn long_and_thin() {
+    for (width, height) in [(32_768, 1), (1, 32_768), (32_768, 2), (3, 32_768)] {
+        let plate = picture("noise", width, height);
+        check_cleaning(&plate, Connectivity::Eight, 5);
+        check_record(&plate, Connectivity::Four, 5);
+    }
+}
+
+/// A light patch of so many pixels, row by row, on a dark plate.
+fn patch(pixels: usize) -> Plate {
+    let (width, height) = (300, 300);
+    let mut greys = vec![20; width * height];
+    greys[..pixels].fill(200);
+    Plate::new(width as u32, height as u32, greys)
+}
+
+/// A patch stays at every limit up to its area, and goes at the next.
+#[test]
+fn patches_about_65536() {
+    for area in [65_535, 65_536, 65_537, 131_072 - 65_536 + 1] {
+        let plate = patch(area);
+        for limit in 65_534..=65_540u32 {
+            for connectivity in BOTH {
+                let opened = plate.area_open(connectivity, limit).expect("an opening");
+                let stays = limit as usize <= area;
+                assert_eq!(
+                    opened.greys()[0],
+                    if stays { 200 } else { 20 },
+                    "{area}, {limit}"
+                );
+                let cut = plate
+                    .record(connectivity)
+                    .and_then(|record| record.cut(limit));
+                assert_eq!(cut.expect("a cut"), opened);
+            }
+        }
+        let list = plate
+            .record(Connectivity::Four)
+            .and_then(|record| record.sizes());
+        let text = list.expect("a size list").to_string();
+        let loss = 180 * area;
+        assert_eq!(
+            text,
+            format!("size 300 300 4 2\n{area} 1 {loss}\nrest 20 92\n")
+        );
+    }
+}
+
+/// Small patches strewn over a plate: those below the limit go, the others stay whole.
+#[test]
+fn strewn_patches() {
+    let mut chance = Chance::new(13);
+    let (width, height) = (1200usize, 900usize);
+    let mut greys = vec![10u8; width * height];
+    let mut wanted = greys.clone();
+    for cell in 0..(width / 10) * (height / 10) {
+        let (x, y) = (cell % (width / 10) * 10, cell / (width / 10) * 10);
+        let (w, h) = (1 + chance.below(9), 1 + chance.below(9));
+        let grey = 11 + chance.below(240) as u8;
+        for p in (0..w * h).map(|i| (y + i / w) * width + x + i % w) {
+            greys[p] = grey;
+            if w * h >= 25 {
+                wanted[p] = grey;
+            }
+        }
+    }
+    let plate = Plate::new(width as u32, height as u32, greys);
+    for connectivity in BOTH {
+        let opened = plate.area_open(connectivity, 25).expect("an opening");
+        assert!(opened.greys() == wanted);
+    }
+}

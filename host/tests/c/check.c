@@ -1,0 +1,176 @@
+/* Calls every function of livukoe.h from C, with buffers of exactly the lengths that are passed, so that a checker of
+ * memory sees any access beyond them. Prints nothing and exits with 0 where all is as it must be. */
+#include <livukoe.h>
+#include <stdio.h>
+#include <stdlib.h>
+#include <string.h>
+
+static int failures = 0;
+
+#define EXPECT(fact)                                                           \
+    do {                                                                       \
+        if (!(fact)) {                                                         \
+            fprintf(stderr, "%s:%d: not so: %s\n", __FILE__, __LINE__, #fact); \
+            failures++;                                                        \
+        }                                                                      \
+    } while (0)
+
+enum { WIDTH = 4, HEIGHT = 3, PIXELS = 12, WORK = 8 * PIXELS };
+
+static const uint8_t SMALL[PIXELS] = {10, 10, 10, 10, 10, 50, 30, 10, 10, 10, 10, 90};
+
+/* `length` bytes, each 77. */
+static void *filled(size_t length)
+{
+    void *bytes = malloc(length);
+    if (bytes == NULL)
+        exit(2);
+    return memset(bytes, 77, length);
+}
+
+static int all(const void *bytes, int value, size_t length)
+{
+    const unsigned char *each = bytes;
+    for (size_t i = 0; i < length; i++)
+        if (each[i] != value)
+            return 0;
+    return 1;
+}
+
+static void check_cleaning(void)
+{
+    const uint8_t opened[PIXELS] = {10, 10, 10, 10, 10, 30, 30, 10, 10, 10, 10, 10};
+    const uint8_t closed[PIXELS] = {30, 30, 30, 30, 30, 50, 30, 30, 30, 30, 30, 90};
+    uint8_t *out = filled(PIXELS + 1);
+    uint32_t *work = filled((WORK + 1) * sizeof *work);
+    EXPECT(livukoe_area_open(SMALL, PIXELS, WIDTH, HEIGHT, 5, 2, out, PIXELS, work, WORK) == LIVUKOE_CONNECTIVITY);
+    EXPECT(livukoe_area_open(SMALL, PIXELS, 0, HEIGHT, 4, 2, out, PIXELS, work, WORK) == LIVUKOE_GRID);
+    EXPECT(livukoe_area_open(SMALL, PIXELS - 1, WIDTH, HEIGHT, 4, 2, out, PIXELS, work, WORK) == LIVUKOE_PLATE_LENGTH);
+    EXPECT(livukoe_area_open(SMALL, PIXELS, WIDTH, HEIGHT, 4, 13, out, PIXELS, work, WORK) == LIVUKOE_LIMIT);
+    EXPECT(livukoe_area_open(SMALL, PIXELS, WIDTH, HEIGHT, 4, 2, out, PIXELS - 1, work, WORK) == LIVUKOE_OUTPUT_SHORT);
+    EXPECT(livukoe_area_open(SMALL, PIXELS, WIDTH, HEIGHT, 4, 2, out, PIXELS, work, WORK - 1) == LIVUKOE_WORK_SHORT);
+    EXPECT(all(out, 77, PIXELS + 1) && all(work, 77, (WORK + 1) * sizeof *work));
+    EXPECT(livukoe_area_open(SMALL, PIXELS, WIDTH, HEIGHT, 4, 2, out, PIXELS + 1, work, WORK + 1) == 0);
+    EXPECT(memcmp(out, opened, PIXELS) == 0 && out[PIXELS] == 77);
+    EXPECT(all(work, 0, WORK * sizeof *work) && all(work + WORK, 77, sizeof *work));
+    EXPECT(livukoe_area_close(SMALL, PIXELS, WIDTH, HEIGHT, 4, 10, out, PIXELS, work, WORK) == 0);
+    EXPECT(memcmp(out, closed, PIXELS) == 0);
+    free(out);
+    free(work);
+}
+
+static void check_maxima_and_nodes(void)
+{
+    const uint8_t marks[PIXELS] = {0, 0, 0, 0, 0, 1, 0, 0, 0, 0, 0, 1};
+    const uint32_t wanted[4][4] = {{10, 30, 50, 90}, {0, 0, 1, 0}, {12, 2, 1, 1}, {0, 6, 5, 11}};
+    uint8_t *out = filled(PIXELS);
+    uint32_t *work = filled(WORK * sizeof *work);
+    uint32_t *columns[4];
+    EXPECT(livukoe_regional_maxima(SMALL, PIXELS, WIDTH, HEIGHT, 4, out, PIXELS, work, WORK) == 0);
+    EXPECT(memcmp(out, marks, PIXELS) == 0);
+    for (int c = 0; c < 4; c++)
+        columns[c] = filled(4 * sizeof(uint32_t));
+    struct livukoe_node_count answer = livukoe_node_list(
+        SMALL, PIXELS, WIDTH, HEIGHT, 4, columns[0], 4, columns[1], 4, columns[2], 3, columns[3], 4, work, WORK);
+    EXPECT(answer.refusal == LIVUKOE_OUTPUT_SHORT && answer.count == 0);
+    EXPECT(all(columns[2], 77, 4 * sizeof(uint32_t)) && all(work, 0, WORK * sizeof *work));
+    answer = livukoe_node_list(
+        SMALL, PIXELS, WIDTH, HEIGHT, 4, columns[0], 4, columns[1], 4, columns[2], 4, columns[3], 4, work, WORK);
+    EXPECT(answer.refusal == 0 && answer.count == 4);
+    for (int c = 0; c < 4; c++) {
+        EXPECT(memcmp(columns[c], wanted[c], sizeof wanted[c]) == 0);
+        free(columns[c]);
+    }
+    free(out);
+    free(work);
+}
+
+static void check_file(void)
+{
+    static const char header[] = "P5 # a comment\n4 3\n255\n";
+    size_t length = sizeof header - 1 + PIXELS;
+    uint8_t *file = filled(length);
+    uint8_t *out = filled(PIXELS);
+    memcpy(file, header, sizeof header - 1);
+    memcpy(file + sizeof header - 1, SMALL, PIXELS);
+    struct livukoe_plate_head head = livukoe_read_pgm(file, length, out, PIXELS);
+    EXPECT(head.refusal == 0 && head.width == WIDTH && head.height == HEIGHT);
+    EXPECT(memcmp(out, SMALL, PIXELS) == 0);
+    head = livukoe_read_pgm(file, length - 1, out, PIXELS);
+    EXPECT(head.refusal == LIVUKOE_RASTER_SHORT && head.width == 0 && head.height == 0);
+    EXPECT(livukoe_ink_percentage(0) == 100 && livukoe_ink_percentage(255) == 0 && livukoe_ink_percentage(10) == 96);
+    free(file);
+    free(out);
+}
+
+static void check_record(void)
+{
+    const uint8_t record[27] = {4, 3, 4, 4, 10, 12, 1, 20, 2, 1, 20, 1, 3, 80,
+                                1, 0, 0, 0, 0,  0,  2, 1,  0, 0, 0,  0, 3};
+    const uint8_t cut[PIXELS] = {10, 10, 10, 10, 10, 30, 30, 10, 10, 10, 10, 10};
+    uint8_t *bytes = filled(27), *out = filled(PIXELS);
+    uint32_t *work = filled(WORK * sizeof *work), *counts = filled(11 * sizeof *counts);
+    uint64_t *losses = filled(11 * sizeof *losses);
+    struct livukoe_record_length written =
+        livukoe_write_record(SMALL, PIXELS, WIDTH, HEIGHT, 4, bytes, 26, work, WORK);
+    EXPECT(written.refusal == LIVUKOE_OUTPUT_SHORT && written.length == 0 && all(bytes, 77, 27));
+    written = livukoe_write_record(SMALL, PIXELS, WIDTH, HEIGHT, 4, bytes, 27, work, WORK);
+    EXPECT(written.refusal == 0 && written.length == 27 && memcmp(bytes, record, 27) == 0);
+    struct livukoe_record_head head = livukoe_read_record(bytes, 27, out, PIXELS, work, WORK);
+    EXPECT(head.refusal == 0 && head.width == WIDTH && head.height == HEIGHT && head.connectivity == 4);
+    EXPECT(memcmp(out, SMALL, PIXELS) == 0);
+    head = livukoe_cut_record(bytes, 27, 2, out, PIXELS, work, WORK);
+    EXPECT(head.refusal == 0 && memcmp(out, cut, PIXELS) == 0);
+    head = livukoe_cut_record(bytes, 26, 2, out, PIXELS, work, WORK);
+    EXPECT(head.refusal == LIVUKOE_FIELD_UNENDED && head.width == 0);
+    struct livukoe_size_head sizes = livukoe_size_list(bytes, 27, counts, 11, losses, 11, work, WORK);
+    EXPECT(sizes.refusal == 0 && sizes.nodes == 4 && sizes.darkest == 10 && sizes.connectivity == 4);
+    EXPECT(counts[0] == 2 && losses[0] == 100 && counts[1] == 1 && losses[1] == 40);
+    EXPECT(all(counts + 2, 0, 9 * sizeof *counts) && all(losses + 2, 0, 9 * sizeof *losses));
+    free(bytes);
+    free(out);
+    free(work);
+    free(counts);
+    free(losses);
+}
+
+/* Every operation on a plate of chance, large enough for each column to be a block of memory of its own. */
+static void check_noise(uint32_t connectivity)
+{
+    enum { SIDE = 97, MANY = SIDE * SIDE };
+    uint8_t *image = filled(MANY), *out = filled(MANY), *again = filled(MANY);
+    uint32_t *work = filled(8 * MANY * sizeof *work);
+    uint32_t state = 1;
+    for (int p = 0; p < MANY; p++) {
+        state = state * 1664525 + 1013904223;
+        image[p] = (uint8_t)(state >> 24);
+    }
+    EXPECT(livukoe_area_open(image, MANY, SIDE, SIDE, connectivity, 9, out, MANY, work, 8 * MANY) == 0);
+    EXPECT(livukoe_area_open(out, MANY, SIDE, SIDE, connectivity, 9, again, MANY, work, 8 * MANY) == 0);
+    EXPECT(memcmp(out, again, MANY) == 0);
+    EXPECT(livukoe_area_close(image, MANY, SIDE, SIDE, connectivity, 9, out, MANY, work, 8 * MANY) == 0);
+    EXPECT(livukoe_regional_maxima(image, MANY, SIDE, SIDE, connectivity, out, MANY, work, 8 * MANY) == 0);
+    uint8_t *bytes = filled(11 + 14 * MANY);
+    struct livukoe_record_length written =
+        livukoe_write_record(image, MANY, SIDE, SIDE, connectivity, bytes, 11 + 14 * MANY, work, 8 * MANY);
+    EXPECT(written.refusal == 0);
+    EXPECT(livukoe_read_record(bytes, written.length, out, MANY, work, 8 * MANY).refusal == 0);
+    EXPECT(memcmp(out, image, MANY) == 0);
+    EXPECT(livukoe_read_record(bytes, written.length - 1, out, MANY, work, 8 * MANY).refusal != 0);
+    free(bytes);
+    free(image);
+    free(out);
+    free(again);
+    free(work);
+}
+
+int main(void)
+{
+    check_cleaning();
+    check_maxima_and_nodes();
+    check_file();
+    check_record();
+    check_noise(4);
+    check_noise(8);
+    return failures != 0;
+}

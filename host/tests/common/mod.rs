@@ -1,0 +1,167 @@
+//! What the tests share: chance, plates by chance, and buffers that show what was written.
+
+#![allow(dead_code)] // each test uses a part of it
+
+use std::collections::BTreeSet;
+
+use livukoe::lent::Image;
+
+/// Numbers that look like chance, the same in each run (xorshift).
+pub struct Chance(u64);
+
+impl Chance {
+    pub fn new(seed: u64) -> Chance {
+        Chance(seed.wrapping_mul(0x9E37_79B9_7F4A_7C15) | 1)
+    }
+
+    pub fn next(&mut self) -> u64 {
+        self.0 ^= self.0 << 13;
+        self.0 ^= self.0 >> 7;
+        self.0 ^= self.0 << 17;
+        self.0 >> 11
+    }
+
+    /// A number below n.
+    pub fn below(&mut self, n: usize) -> usize {
+        (self.next() % n as u64) as usize
+    }
+
+    pub fn one_in(&mut self, n: usize) -> bool {
+        self.below(n) == 0
+    }
+
+    pub fn pick<T: Copy>(&mut self, from: &[T]) -> T {
+        from[self.below(from.len())]
+    }
+
+    /// A length that is n, or a little less, or more.
+    pub fn length_near(&mut self, n: usize) -> usize {
+        match self.below(8) {
+            0 => n.saturating_sub(1),
+            1 => n.saturating_sub(self.below(n + 1)),
+            2 | 3 => n + 1 + self.below(5),
+            _ => n,
+        }
+    }
+
+    /// A buffer for an answer of n numbers, not always long enough, filled with what is easily told from an answer.
+    pub fn buffer<T: TryFrom<u64>>(&mut self, n: usize) -> Vec<T> {
+        (0..self.length_near(n)).map(|_| self.grey(256)).collect()
+    }
+
+    fn grey<T: TryFrom<u64>>(&mut self, greys: u64) -> T {
+        T::try_from(self.next() % greys).unwrap_or_else(|_| unreachable!("every type holds a byte"))
+    }
+
+    /// A small plate of few greys, so that patches nest and meet.
+    pub fn plate(&mut self, side: usize) -> Plate {
+        let (width, height) = (1 + self.below(side), 1 + self.below(side));
+        let greys = self.pick(&[1, 2, 3, 5, 256]);
+        let base = self.pick(&[0, 1, 7, 251]);
+        let plate = (0..width * height)
+            .map(|_| (base + self.below(greys)).min(255) as u8)
+            .collect();
+        Plate {
+            width: width as u32,
+            height: height as u32,
+            connectivity: self.pick(&[4, 8]),
+            greys: plate,
+        }
+    }
+
+    /// A small plate whose numbers are sometimes wrong.
+    pub fn ticket(&mut self, side: usize) -> Plate {
+        let mut plate = self.plate(side);
+        if self.one_in(12) {
+            plate.connectivity = self.pick(&[0, 1, 3, 5, 6, 7, 9, 260, u32::MAX]);
+        }
+        if self.one_in(12) {
+            plate.width = self.pick(&[0, plate.width + 1, 32_768, 32_769, 65_536, u32::MAX]);
+        }
+        if self.one_in(12) {
+            plate.height = self.pick(&[0, plate.height + 1, 32_768, 32_769, 65_536, u32::MAX]);
+        }
+        if self.one_in(12) {
+            let length = self.length_near(plate.greys.len());
+            plate.greys.resize(length, 9);
+        }
+        plate
+    }
+
+    /// A limit for so many pixels, not always allowed.
+    pub fn limit(&mut self, pixels: usize) -> u32 {
+        match self.below(12) {
+            0 => self.pick(&[0, pixels as u32 + 1, 65_536 + 1, u32::MAX]),
+            1 => pixels as u32,
+            _ => 1 + self.below(pixels.max(1)) as u32,
+        }
+    }
+
+    /// Changes, drops, doubles or adds a few bytes.
+    pub fn damage(&mut self, bytes: &mut Vec<u8>) {
+        for _ in 0..1 + self.below(2) {
+            let at = self.below(bytes.len() + 1);
+            let byte = self.pick(&[0, 1, 2, 4, 8, 127, 128, 129, 255, b'#', b' ', b'\n', b'5']);
+            match self.below(5) {
+                0 => bytes.truncate(at),
+                1 => bytes.insert(at, byte),
+                2 if at < bytes.len() => drop(bytes.remove(at)),
+                3 if at < bytes.len() => bytes[at] ^= 1 << self.below(8),
+                _ if at < bytes.len() => bytes[at] = byte,
+                _ => bytes.push(byte),
+            }
+        }
+    }
+}
+
+/// Which refusals a test has met.
+#[derive(Default)]
+pub struct Seen(BTreeSet<u32>);
+
+impl Seen {
+    pub fn note(&mut self, refusal: u32) {
+        self.0.insert(refusal);
+    }
+
+    /// A test that misses a refusal shows nothing of it.
+    pub fn assert_all(&self, refusals: &[u32]) {
+        let wanted: BTreeSet<u32> = refusals.iter().copied().collect();
+        assert_eq!(self.0, wanted, "the refusals that were met");
+    }
+}
+
+/// A plate as the tests have it.
+#[derive(Clone, Debug)]
+pub struct Plate {
+    pub width: u32,
+    pub height: u32,
+    pub connectivity: u32,
+    pub greys: Vec<u8>,
+}
+
+impl Plate {
+    pub fn image(&self) -> Image<'_> {
+        Image {
+            greys: &self.greys,
+            width: self.width,
+            height: self.height,
+            connectivity: self.connectivity,
+        }
+    }
+
+    /// Width, height and connectivity.
+    pub fn numbers(&self) -> (u32, u32, u32) {
+        (self.width, self.height, self.connectivity)
+    }
+
+    pub fn pixels(&self) -> usize {
+        self.greys.len()
+    }
+
+    /// The plate file of this plate.
+    pub fn file(&self) -> Vec<u8> {
+        let mut file = format!("P5\n{} {}\n255\n", self.width, self.height).into_bytes();
+        file.extend(&self.greys);
+        file
+    }
+}

@@ -1,0 +1,106 @@
+//! Reading plate files against the second program: headers of every shape, damaged files, short and long outputs.
+
+mod common;
+
+use common::{Chance, Seen};
+use livukoe::lent;
+
+const CASES: u64 = 200_000;
+
+fn compare(chance: &mut Chance, file: &[u8], pixels: usize) -> u32 {
+    let mut out = chance.buffer(pixels);
+    let mut out2 = out.clone();
+    let answer = lent::read_pgm(file, &mut out);
+    let wanted = reference::read_pgm(file, &mut out2);
+    assert_eq!(
+        (answer.refusal, answer.width, answer.height),
+        (wanted.refusal, wanted.width, wanted.height),
+        "{:?}",
+        String::from_utf8_lossy(file)
+    );
+    assert_eq!(out, out2, "{:?}", String::from_utf8_lossy(file));
+    answer.refusal
+}
+
+/// A gap, not always a right one.
+fn gap(chance: &mut Chance) -> String {
+    let mut gap = String::from(chance.pick(&[" ", "\t", "\r", "\n", "\n", "\n", "", "#"]));
+    for _ in 0..chance.below(3) {
+        gap += chance.pick(&[" ", "\n", "#c\n", "# two words\r", "#\n", "##\n\n"]);
+    }
+    gap
+}
+
+/// A number, not always a right one.
+fn number(chance: &mut Chance, right: u32) -> String {
+    match chance.below(12) {
+        0 => format!("{right:05}"),
+        1 => format!("{right:06}"),
+        2 => chance
+            .pick(&["", "-1", "0", "32768", "32769", "99999", "1x", "25 5"])
+            .to_owned(),
+        _ => right.to_string(),
+    }
+}
+
+#[test]
+fn headers() {
+    let (mut chance, mut seen) = (Chance::new(5), Seen::default());
+    for _ in 0..CASES {
+        let plate = chance.plate(5);
+        let mut file = String::from(chance.pick(&["P5", "P5", "P5", "P5", "P2", "p5", "P"]));
+        for right in [plate.width, plate.height, 255] {
+            file += &gap(&mut chance);
+            file += &number(&mut chance, right);
+        }
+        file += chance.pick(&["\n", "\n", "\n", " ", "\t", "\r", "", "#"]);
+        let mut file = file.into_bytes();
+        file.extend(&plate.greys);
+        if chance.one_in(6) {
+            chance.damage(&mut file);
+        }
+        seen.note(compare(&mut chance, &file, plate.pixels()));
+    }
+    seen.assert_all(&[0, 2, 5, 10, 11, 12, 14, 15]);
+}
+
+#[test]
+fn damaged_files() {
+    let (mut chance, mut seen) = (Chance::new(6), Seen::default());
+    for _ in 0..CASES {
+        let plate = chance.plate(4);
+        let mut file = plate.file();
+        chance.damage(&mut file);
+        seen.note(compare(&mut chance, &file, plate.pixels()));
+    }
+    seen.assert_all(&[0, 2, 5, 10, 11, 12, 14, 15]);
+}
+
+/// Every beginning of a file.
+#[test]
+fn beginnings() {
+    let mut chance = Chance::new(7);
+    let file = b"P5 # a comment\n 2\t# and\r\n#another\n3\n255\n123456 and more";
+    for end in 0..=file.len() {
+        compare(&mut chance, &file[..end], 6);
+    }
+}
+
+/// 16 MB of comments, or of blanks, ahead of the width, on a stack of 8 MB.
+#[test]
+fn long_headers() {
+    for filler in [&b"#\n"[..], b" ", b"\n"] {
+        let mut file = b"P5\n".to_vec();
+        file.extend(filler.repeat(16_000_000 / filler.len()));
+        file.extend(b"1 1 255\n\x07");
+        let read = std::thread::Builder::new()
+            .stack_size(8 << 20)
+            .spawn(move || {
+                let mut out = [0];
+                (lent::read_pgm(&file, &mut out), out)
+            });
+        let (answer, out) = read.expect("a thread").join().expect("an answer");
+        assert_eq!((answer.refusal, answer.width, answer.height), (0, 1, 1));
+        assert_eq!(out, [7]);
+    }
+}

@@ -1,0 +1,170 @@
+//! Records against the second program: written, read, cut and listed, whole and damaged, with buffers short and long.
+
+mod common;
+
+use common::{Chance, Plate, Seen};
+use livukoe::lent;
+
+const CASES: u64 = 60_000;
+const SIDE: usize = 5;
+
+/// The record of a plate, by the second program.
+fn record_of(plate: &Plate) -> Vec<u8> {
+    let mut out = vec![0; 32 + 16 * plate.pixels()];
+    let mut work = vec![0; 8 * plate.pixels()];
+    let (width, height, connectivity) = plate.numbers();
+    let answer = reference::write_record(
+        &plate.greys,
+        width,
+        height,
+        connectivity,
+        &mut out,
+        &mut work,
+    );
+    out.truncate(answer.length);
+    out
+}
+
+#[test]
+fn writing() {
+    let (mut chance, mut seen) = (Chance::new(8), Seen::default());
+    for case in 0..CASES {
+        let plate = chance.ticket(SIDE);
+        let mut out = chance.buffer(record_of(&plate).len());
+        let mut work = chance.buffer(8 * plate.pixels());
+        let (mut out2, mut work2) = (out.clone(), work.clone());
+        let (width, height, connectivity) = plate.numbers();
+        let answer = lent::write_record(plate.image(), &mut out, &mut work);
+        let wanted = reference::write_record(
+            &plate.greys,
+            width,
+            height,
+            connectivity,
+            &mut out2,
+            &mut work2,
+        );
+        assert_eq!(
+            (answer.refusal, answer.length),
+            (wanted.refusal, wanted.length),
+            "case {case}: {plate:?}"
+        );
+        assert_eq!(out, out2, "case {case}: {plate:?}");
+        assert_eq!(work, work2, "case {case}: {plate:?}");
+        seen.note(answer.refusal);
+    }
+    seen.assert_all(&[0, 1, 2, 3, 5, 6]);
+}
+
+/// A record, damaged more often than not, and the pixels of the plate that it came from.
+fn damaged(chance: &mut Chance) -> (Vec<u8>, usize) {
+    let plate = chance.plate(SIDE);
+    let mut record = record_of(&plate);
+    if !chance.one_in(3) {
+        chance.damage(&mut record);
+    }
+    (record, plate.pixels())
+}
+
+/// Compares reading a record into buffers for so many pixels; the refusal.
+fn compare_reading(chance: &mut Chance, record: &[u8], pixels: usize) -> u32 {
+    let mut out = chance.buffer(pixels);
+    let mut work = chance.buffer(8 * pixels);
+    let (mut out2, mut work2) = (out.clone(), work.clone());
+    let answer = lent::read_record(record, &mut out, &mut work);
+    let wanted = reference::read_record(record, &mut out2, &mut work2);
+    assert_same(record, answer, wanted);
+    assert_eq!((out, work), (out2, work2), "{record:?}");
+    answer.refusal
+}
+
+#[test]
+fn reading() {
+    let (mut chance, mut seen) = (Chance::new(9), Seen::default());
+    for _ in 0..CASES {
+        let (record, pixels) = damaged(&mut chance);
+        seen.note(compare_reading(&mut chance, &record, pixels));
+    }
+    seen.assert_all(&[0, 5, 6, 20, 21, 22, 23, 24]);
+}
+
+#[test]
+fn cutting() {
+    let (mut chance, mut seen) = (Chance::new(10), Seen::default());
+    for _ in 0..CASES {
+        let (record, pixels) = damaged(&mut chance);
+        let limit = chance.limit(pixels);
+        let mut out = chance.buffer(pixels);
+        let mut work = chance.buffer(8 * pixels);
+        let (mut out2, mut work2) = (out.clone(), work.clone());
+        let answer = lent::cut_record(&record, limit, &mut out, &mut work);
+        let wanted = reference::cut_record(&record, limit, &mut out2, &mut work2);
+        assert_same(&record, answer, wanted);
+        assert_eq!((out, work), (out2, work2), "{record:?}, {limit}");
+        seen.note(answer.refusal);
+    }
+    seen.assert_all(&[0, 4, 5, 6, 20, 21, 22, 23, 24]);
+}
+
+fn assert_same(record: &[u8], answer: lent::RecordHead, wanted: reference::RecordHead) {
+    let lent::RecordHead {
+        refusal,
+        width,
+        height,
+        connectivity,
+    } = answer;
+    let got = reference::RecordHead {
+        refusal,
+        width,
+        height,
+        connectivity,
+    };
+    assert_eq!(got, wanted, "{record:?}");
+}
+
+#[test]
+fn listing_sizes() {
+    let (mut chance, mut seen) = (Chance::new(11), Seen::default());
+    for _ in 0..CASES {
+        let (record, pixels) = damaged(&mut chance);
+        let mut counts = chance.buffer(pixels - 1);
+        let mut losses = chance.buffer(pixels - 1);
+        let mut work = chance.buffer(8 * pixels);
+        let (mut counts2, mut losses2, mut work2) = (counts.clone(), losses.clone(), work.clone());
+        let answer = lent::size_list(&record, &mut counts, &mut losses, &mut work);
+        let wanted = reference::size_list(&record, &mut counts2, &mut losses2, &mut work2);
+        let wanted = lent::SizeHead {
+            refusal: wanted.refusal,
+            width: wanted.width,
+            height: wanted.height,
+            connectivity: wanted.connectivity,
+            nodes: wanted.nodes,
+            darkest: u32::from(wanted.darkest),
+        };
+        assert_eq!(answer, wanted, "{record:?}");
+        assert_eq!(
+            (counts, losses, work),
+            (counts2, losses2, work2),
+            "{record:?}"
+        );
+        seen.note(answer.refusal);
+    }
+    seen.assert_all(&[0, 5, 6, 20, 21, 22, 23, 24]);
+}
+
+/// Bytes by chance that look like a record's beginning.
+#[test]
+fn invented_records() {
+    let (mut chance, mut seen) = (Chance::new(12), Seen::default());
+    for _ in 0..4 * CASES {
+        let mut record = vec![
+            chance.pick(&[1, 2]),
+            chance.pick(&[1, 2]),
+            chance.pick(&[4, 8]),
+        ];
+        for _ in 0..chance.below(16) {
+            record.push(chance.pick(&[0, 0, 1, 1, 1, 2, 2, 3, 4, 127, 128, 255]));
+        }
+        seen.note(compare_reading(&mut chance, &record, 4));
+    }
+    seen.assert_all(&[0, 5, 6, 20, 21, 22, 23, 24]);
+}

@@ -1,0 +1,146 @@
+/* Livukoe: verified cleaning of grey images, for C.
+ *
+ * Link with target/staticlib/libcapi.a, which `make` builds. Each function calls one proved function and has its
+ * contract (crates/capi/src/lib.rt).
+ *
+ * A plate is width x height greys, one byte each, row by row from the top left. Width and height are 1 to 32768, their
+ * product, the pixels, at most 16777216. Connectivity is 4 (shared side) or 8 (shared side or corner).
+ *
+ * Every buffer is a pointer and the number of its elements. The caller answers for this, and for nothing else: each
+ * pointer is not null (also where the number is 0), aligned for its type, and valid for that many elements; no buffer
+ * that is written overlaps another; no other thread writes to a buffer during the call. There is no other condition:
+ * whatever the numbers and the bytes are, the function returns, and answers what is written here.
+ *
+ * An answer has 0 in `refusal`, or the number of a refusal and zeros elsewhere. A refusal leaves the outputs as they
+ * were. An output may be longer than the answer: the excess stays as it was.
+ *
+ * `work` is work space of at least 8 numbers for each pixel, whatever they hold. Its first 8 x pixels numbers are zero
+ * afterwards, except that refusal 6 and those that come ahead of it leave all of it as it was.
+ *
+ * The functions allocate nothing, keep nothing between calls, and may run in several threads at once on buffers of
+ * their own. */
+#ifndef LIVUKOE_H
+#define LIVUKOE_H
+
+#include <stddef.h>
+#include <stdint.h>
+
+#ifdef __cplusplus
+extern "C" {
+#endif
+
+/* Refusals. Each function names those that it gives, in the order in which it looks. */
+enum livukoe_refusal {
+    LIVUKOE_CONNECTIVITY = 1,   /* the connectivity is neither 4 nor 8 */
+    LIVUKOE_GRID = 2,           /* width, height or pixels are beyond the grid (0 included) */
+    LIVUKOE_PLATE_LENGTH = 3,   /* image_length is not width x height */
+    LIVUKOE_LIMIT = 4,          /* the limit is 0 or above the pixels */
+    LIVUKOE_OUTPUT_SHORT = 5,   /* an output is shorter than the answer */
+    LIVUKOE_WORK_SHORT = 6,     /* work_length is below 8 x pixels */
+    LIVUKOE_LETTERS = 10,       /* the plate file does not open with "P5" */
+    LIVUKOE_HEADER = 11,        /* a gap or number of the header is missing or malformed, or the last blank is absent */
+    LIVUKOE_GREATEST_GREY = 12, /* the third number of the header is not 255 */
+    LIVUKOE_RASTER_SHORT = 14,  /* the plate file ends before its last pixel */
+    LIVUKOE_RASTER_LONG = 15,   /* bytes are left over behind the last pixel */
+    LIVUKOE_FIELD_UNENDED = 20, /* the record ends before a byte with its top bit clear */
+    LIVUKOE_FIELD_FORM = 21,    /* a field is not in its shortest form, or is 4294967296 or more */
+    LIVUKOE_FIELD_RANGE = 22,   /* a field is outside its range */
+    LIVUKOE_RECORD_LONG = 23,   /* bytes are left over behind the last field */
+    LIVUKOE_NOT_CANONICAL = 24  /* the bytes differ from the record of the plate that they spell */
+};
+
+/* Area opening: each pixel gets the greatest t for which a connected set of at least `limit` pixels contains it, with
+ * no grey below t, so that light patches of fewer pixels go. Refusals 1, 2, 3, 4, 5, 6. Returns the refusal. */
+uint32_t livukoe_area_open(
+    const uint8_t *image, size_t image_length, uint32_t width, uint32_t height, uint32_t connectivity, uint32_t limit,
+    uint8_t *out, size_t out_length, uint32_t *work, size_t work_length);
+
+/* Area closing: the same for dark patches; 255 minus the opening of 255 minus each grey. Refusals as for opening. */
+uint32_t livukoe_area_close(
+    const uint8_t *image, size_t image_length, uint32_t width, uint32_t height, uint32_t connectivity, uint32_t limit,
+    uint8_t *out, size_t out_length, uint32_t *work, size_t work_length);
+
+/* Regional maxima: 1 inside a greatest connected set of one grey whose outside neighbours are all darker, 0 elsewhere.
+ * Refusals 1, 2, 3, 5, 6. Returns the refusal. */
+uint32_t livukoe_regional_maxima(
+    const uint8_t *image, size_t image_length, uint32_t width, uint32_t height, uint32_t connectivity,
+    uint8_t *out, size_t out_length, uint32_t *work, size_t work_length);
+
+struct livukoe_node_count {
+    uint32_t refusal;
+    uint32_t count; /* of the nodes */
+};
+
+/* The nodes of the component tree (max-tree), numbered from 0 by level rising, then anchor rising: for node i its level
+ * (least grey), parent (smallest node that strictly contains it; 0 for the root), area (pixels) and anchor (lowest
+ * number of a pixel at its level). A plate has at most as many nodes as pixels. Refusals 1, 2, 3, 6, 5. */
+struct livukoe_node_count livukoe_node_list(
+    const uint8_t *image, size_t image_length, uint32_t width, uint32_t height, uint32_t connectivity,
+    uint32_t *levels, size_t levels_length, uint32_t *parents, size_t parents_length,
+    uint32_t *areas, size_t areas_length, uint32_t *anchors, size_t anchors_length,
+    uint32_t *work, size_t work_length);
+
+struct livukoe_plate_head {
+    uint32_t refusal;
+    uint32_t width;
+    uint32_t height;
+};
+
+/* Reads a plate file, the binary form of Netpbm's PGM ("P5", greatest grey 255), into `out`. An output as long as the
+ * file is always long enough. Refusals 10, 11, 2, 12, 14, 15, 5. */
+struct livukoe_plate_head livukoe_read_pgm(const uint8_t *file, size_t file_length, uint8_t *out, size_t out_length);
+
+/* The record of a plate: its canonical description, by the tree of its nodes and each pixel's own node. */
+
+struct livukoe_record_length {
+    uint32_t refusal;
+    size_t length; /* of the record, in bytes */
+};
+
+/* Writes the record of a plate with its connectivity. 14 bytes for each pixel, and 11 more, are always enough.
+ * Refusals 1, 2, 3, 6, 5. */
+struct livukoe_record_length livukoe_write_record(
+    const uint8_t *image, size_t image_length, uint32_t width, uint32_t height, uint32_t connectivity,
+    uint8_t *out, size_t out_length, uint32_t *work, size_t work_length);
+
+struct livukoe_record_head {
+    uint32_t refusal;
+    uint32_t width;
+    uint32_t height;
+    uint32_t connectivity;
+};
+
+/* Reads a record: `out` gets its plate. Refusals 20, 21, 22 field by field, with 6 behind the node count; 23, 24, 5. */
+struct livukoe_record_head livukoe_read_record(
+    const uint8_t *bytes, size_t bytes_length, uint8_t *out, size_t out_length, uint32_t *work, size_t work_length);
+
+/* Cuts a record at a limit: `out` gets the area opening of its plate, under its connectivity. Refusals as for reading
+ * up to 24, then 4, 5. */
+struct livukoe_record_head livukoe_cut_record(
+    const uint8_t *bytes, size_t bytes_length, uint32_t limit,
+    uint8_t *out, size_t out_length, uint32_t *work, size_t work_length);
+
+struct livukoe_size_head {
+    uint32_t refusal;
+    uint32_t width;
+    uint32_t height;
+    uint32_t connectivity;
+    uint32_t nodes;   /* their number */
+    uint32_t darkest; /* the least grey */
+};
+
+/* The size list (pattern spectrum) of a record: for each area a from 1 to pixels - 1, counts[a - 1] is the number of
+ * nodes of that area, and losses[a - 1] the sum over the pixels of the cut at a minus the cut at a + 1. Refusals as for
+ * reading up to 24, then 5 when either table has fewer than pixels - 1 places. */
+struct livukoe_size_head livukoe_size_list(
+    const uint8_t *bytes, size_t bytes_length, uint32_t *counts, size_t counts_length,
+    uint64_t *losses, size_t losses_length, uint32_t *work, size_t work_length);
+
+/* The ink percentage of a grey: the whole number nearest to (255 - grey) x 100 / 255. Never refuses. */
+uint8_t livukoe_ink_percentage(uint8_t grey);
+
+#ifdef __cplusplus
+}
+#endif
+
+#endif
