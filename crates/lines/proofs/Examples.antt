@@ -1,7 +1,6 @@
 -- Numbers and lines, computed from the definitions.
 use mathlib.Core.Path.{_≡_, refl}
-use mathlib.Core.List.{List, [], _∷_}
-use Prim.Native.Nat.{ℕ}
+use mathlib.Core.List.{[], _∷_}
 use Rattle.lines.specs.Lines.{decimal, line}
 
 -- one digit, two, a zero inside and at the end, a number of more than 32 bits

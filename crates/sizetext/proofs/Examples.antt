@@ -1,7 +1,6 @@
 -- What sizelist prints, computed from the definition: 01's small plate and one pixel, refusals of every kind, equal areas and losses.
 use mathlib.Core.Path.{_≡_, refl}
 use mathlib.Core.List.{List, [], _∷_, _++_, map}
-use Prim.Native.Nat.{ℕ}
 use Prim.Native.String.{String}
 use lib.ListN.{replicate}
 use Rattle.pgm.specs.Text.{bytes}

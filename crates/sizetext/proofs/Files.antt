@@ -1,18 +1,18 @@
 -- The text of a file: refused, or that of the plate that was read.
 use mathlib.Core.Path.{_≡_, refl, sym, ap, _∙_}
 use mathlib.Core.Bool.{Bool, true, false, not}
-use mathlib.Core.List.{List, [], _∷_, _++_}
-use Prim.Native.Nat.{ℕ, zero, suc, _+_, _-_, _*_, _≤_, _<_}
+use mathlib.Core.List.{List, _++_}
+use Prim.Native.Nat.{ℕ, zero, suc, _*_, _≤_, _<_}
 use native.Mathlib.Nat.{zero-add}
 use native.Mathlib.Omega.{arith}
 use borrow.Author.Tests.{eq-eqb, le-ltb, lt-ltb, ltb-false, ne-eqb}
 use lib.Dec.{eqb, ltb}
 use lib.ListN.{drop, length, length-append, take}
 use lib.Seq.{sets-eq, take-at}
-use Rattle.meaning.specs.Answers.{outAfter, outRefusal, over, refuse}
+use Rattle.meaning.specs.Answers.{outAfter, over}
 use Rattle.meaning.specs.Plate.{greatestGrey, gridFits}
 use Rattle.checks.proofs.Refusals.{refuse-none}
-use Rattle.pgm.specs.File.{answerOf, answered, faultNumber, rasterBehind, rasterOf, rasterRefusal, readPgm}
+use Rattle.pgm.specs.File.{answerOf, answered, rasterBehind, rasterOf, rasterRefusal, readPgm}
 use Rattle.pgm.specs.Grammar.{Parsed, faulty, header, sound}
 use Rattle.pgm.specs.declared.Fault.the-variants.{GapOrNumber, Letters}
 use Rattle.pgm.specs.declared.PgmRead.{PgmRead}

@@ -7,13 +7,64 @@
 //     read, cut, sizes                     a record. The second table of `sizes` has `limit` places
 //     file, text                           a plate file; `text` is what sizelist prints
 //     ink                                  greys
-mod cases;
-mod lists;
-mod operations;
-
 ghost use Prim.Native.Nat.{_≤_};
 ghost use lib.ListN.{length};
+use caselines::cases;
+use caselines::cases::Case;
 use libc::STDIN_FILENO;
+use libc::STDOUT_FILENO;
+
+// Runs the operation that the name's first letter says. Of the two that begin with c, `cut` has three letters.
+fn run(letter: u8, letters: usize, c: Case, bytes: &[u8], out: &mut [u8], work: &mut [u32]) {
+    match letter {
+        b'o' => caseruns::open(c, bytes, out, work),
+        b'm' => caseruns::maxima(c, bytes, out, work),
+        b'n' => caseruns::nodes(c, bytes, work),
+        b'w' => caseruns::write(c, bytes, out, work),
+        b'r' => caseruns::read(bytes, out, work),
+        b's' => caseruns::sizes(c, bytes, work),
+        b'f' => caseruns::file(bytes, out),
+        b't' => caseruns::text(bytes),
+        b'i' => caseruns::ink(bytes),
+        _ => {
+            if letters == 3 {
+                caseruns::cut(c, bytes, out, work)
+            } else {
+                caseruns::close(c, bytes, out, work)
+            }
+        }
+    }
+}
+
+// The output and the work space are lent with as many places as the case says.
+fn lend(letter: u8, letters: usize, c: Case, bytes: &[u8], out: &mut [u8], work: &mut [u32]) {
+    let places = caseruns::lesser(c.places as usize, out.len());
+    let room = caseruns::lesser(c.room as usize, work.len());
+    run(
+        letter,
+        letters,
+        c,
+        bytes,
+        &mut out[..places],
+        &mut work[..room],
+    );
+}
+
+// Runs the case of a line and prints its line.
+fn run_line(line: &[u8]) {
+    if line.len() == 0 {
+        return;
+    }
+    let letters = cases::name_end(line);
+    io::write_all(STDOUT_FILENO, &line[..letters]);
+    let c = cases::read_case(line, letters);
+    let mut bytes = [0u8; 66000];
+    let n = cases::read_bytes(line, c.at, &mut bytes);
+    let mut out = [170u8; 66000];
+    let mut work = [7u32; 528100];
+    lend(line[0], letters, c, &bytes[..n], &mut out, &mut work);
+    io::write_all(STDOUT_FILENO, b"\n");
+}
 
 // Where a line that begins at `at` ends.
 fn line_end(file: &[u8], at: usize) -> usize
@@ -34,7 +85,7 @@ fn run_lines(file: &[u8]) {
     let mut at: usize = 0;
     while at < file.len() {
         let end = line_end(file, at);
-        operations::run_line(&file[at..end]);
+        run_line(&file[at..end]);
         if file.len() <= end {
             return;
         }

@@ -5,25 +5,18 @@ use std::collections::BTreeSet;
 
 use crate::*;
 
-/// The numbers that occur as the answer of an operation.
-fn answers(name: &str) -> BTreeSet<u32> {
-    let text = vectors_text(&cases_text());
-    let lines = text
-        .lines()
-        .filter(|line| line.split(' ').next() == Some(name));
+/// The numbers that an operation answers in these lines.
+fn answers(text: &str, name: &str) -> BTreeSet<u32> {
+    let lines = text.lines().map(|line| line.split(' ').collect::<Vec<_>>());
     lines
-        .map(|line| {
-            line.split(' ')
-                .nth(1)
-                .expect("an answer")
-                .parse()
-                .expect("a number")
-        })
+        .filter(|words| words[0] == name)
+        .map(|words| words[1].parse().expect("a number"))
         .collect()
 }
 
 #[test]
 fn every_refusal_occurs() {
+    let text = vectors_text(&cases_text());
     let expected: [(&str, &[u32]); 9] = [
         ("open", &[0, 1, 2, 3, 4, 5, 6]),
         ("close", &[0, 1, 2, 3, 4, 5, 6]),
@@ -36,7 +29,11 @@ fn every_refusal_occurs() {
         ("file", &[0, 2, 5, 10, 11, 12, 14, 15]),
     ];
     for (name, numbers) in expected {
-        assert_eq!(answers(name), numbers.iter().copied().collect(), "{name}");
+        assert_eq!(
+            answers(&text, name),
+            numbers.iter().copied().collect(),
+            "{name}"
+        );
     }
 }
 

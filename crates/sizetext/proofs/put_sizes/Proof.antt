@@ -3,7 +3,6 @@ use mathlib.Core.Path.{_≡_}
 use Prim.Native.Nat.{_+_, _*_, _-_, _≤_, _<_}
 use native.Mathlib.Omega.{arith}
 use native.Mathlib.Numerals.{add-one}
-use lib.ListN.{length}
 use Rattle.meaning.specs.Sets.{gather}
 use Rattle.lines.specs.Lines.{Put}
 use Rattle.lines.proofs.Pieces.{put-length, put-nothing, put-put}

@@ -1,14 +1,13 @@
 -- `sizetext::size_text` meets its contract: too long, refused by reading, or the text of the plate that was read.
 use mathlib.Core.Path.{_≡_, sym, ap, _∙_}
-use mathlib.Core.List.{List}
-use Prim.Native.Nat.{ℕ, _*_, _≤_}
+use Prim.Native.Nat.{_*_}
 use native.Mathlib.Omega.{arith}
 use borrow.Author.Needs.{needs}
 use denote.Ref.{now}
 use lib.ListN.{length, replicate, take}
 use lib.Seq.{length-take-le}
 use Rattle.pgm.specs.File.{rasterOf}
-use Rattle.sizetext.specs.Text.{heldPixels, plateText, sizeText}
+use Rattle.sizetext.specs.Text.{heldPixels, plateText}
 use Rattle.sizetext.proofs.Files.{Sized, made, raster-is, read-is, text-long, text-plate, text-refused}
 use Rattle.sizetext.proofs.size_text.Statement.{statement}
 use Rattle.sizetext.proofs.size_text.Tie as tie

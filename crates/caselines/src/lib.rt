@@ -1,0 +1,3 @@
+// The lines of the program `vectors`: a case taken apart, and buffers printed.
+pub mod cases;
+pub mod lists;
