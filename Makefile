@@ -2,6 +2,7 @@
 .PHONY: all library demo test gate check reference peers bench clean
 
 HOST := --offline --manifest-path host/Cargo.toml
+SECOND := --offline --manifest-path reference/Cargo.toml
 DEMO := target/demo
 # the greatest number of pixels in `make bench`, for the proved functions and for the peers
 BENCH_PIXELS ?= 16777216
@@ -38,9 +39,12 @@ gate:
 check:
 	rt check
 
-# the second program's own tests
+# the second program's own tests; the cases of `vectors` and its answers to them are as stored
 reference:
-	cargo test --offline --quiet --manifest-path reference/Cargo.toml
+	cargo test $(SECOND) --quiet
+	cargo build $(SECOND) --release --quiet
+	reference/target/release/reference cases | cmp - crates/vectors/stdin
+	reference/target/release/reference vectors <crates/vectors/stdin | cmp - crates/vectors/stdout
 
 # what `make bench` compares with, on Debian; without them it leaves them out
 peers:

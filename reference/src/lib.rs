@@ -6,6 +6,7 @@
 
 #![forbid(unsafe_code)]
 
+pub mod cases;
 pub mod grid;
 pub mod ink;
 pub mod maxima;
@@ -16,8 +17,10 @@ pub mod sieve;
 pub mod sizes;
 pub mod text;
 pub mod varint;
+pub mod vectors;
 pub mod work;
 
+pub use cases::cases_text;
 pub use grid::{touching, Grid};
 pub use ink::ink_percentage;
 pub use maxima::regional_maxima;
@@ -27,6 +30,7 @@ pub use record::{cut_record, read_record, write_record, RecordHead, RecordLength
 pub use sieve::{area_close, area_open};
 pub use sizes::{size_list, SizeHead};
 pub use text::sizelist_text;
+pub use vectors::vectors_text;
 
 /// The answer of an operation that says only whether it refused (0: it did not).
 #[derive(Clone, Copy, Debug, Default, PartialEq, Eq)]

@@ -1,15 +1,24 @@
-//! `reference sizelist` reads standard input and prints sizelist's text.
+//! `reference sizelist` prints sizelist's text for the plate file on standard
+//! input, `reference cases` the cases of the program `vectors`, and `reference
+//! vectors` what that program prints for the cases on standard input.
 
 use std::io::{self, Read, Write};
 use std::process::ExitCode;
 
 fn main() -> ExitCode {
     let arguments: Vec<String> = std::env::args().skip(1).collect();
-    if arguments != ["sizelist"] {
-        eprintln!("usage: reference sizelist < plate.pgm");
-        return ExitCode::from(2);
-    }
-    match answer() {
+    let answered = match arguments.iter().map(String::as_str).collect::<Vec<_>>()[..] {
+        ["sizelist"] => input().map(|bytes| reference::sizelist_text(&bytes)),
+        ["cases"] => Ok(reference::cases_text()),
+        ["vectors"] => {
+            input().map(|bytes| reference::vectors_text(&String::from_utf8_lossy(&bytes)))
+        }
+        _ => {
+            eprintln!("usage: reference sizelist < plate.pgm | reference cases | reference vectors < cases");
+            return ExitCode::from(2);
+        }
+    };
+    match answered.and_then(|text| io::stdout().write_all(text.as_bytes())) {
         Ok(()) => ExitCode::SUCCESS,
         Err(error) => {
             eprintln!("reference: {error}");
@@ -18,9 +27,9 @@ fn main() -> ExitCode {
     }
 }
 
-/// Reads all of standard input and prints the text for it.
-fn answer() -> io::Result<()> {
+/// All of standard input.
+fn input() -> io::Result<Vec<u8>> {
     let mut input = Vec::new();
     io::stdin().read_to_end(&mut input)?;
-    io::stdout().write_all(reference::sizelist_text(&input).as_bytes())
+    Ok(input)
 }

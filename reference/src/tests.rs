@@ -1,5 +1,6 @@
 //! Tests on the paper's examples, its refusals and its properties.
 
+mod cases;
 mod examples;
 mod helpers;
 mod literal;

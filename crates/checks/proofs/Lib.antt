@@ -1,3 +1,2 @@
 -- What the conditions on a plate's sizes say.
-pub mod Sizes
 pub mod Refusals

@@ -7,8 +7,8 @@ use lib.Dec.{T, leb, ltb, eqb, leb→le}
 use borrow.Author.Tests.{eqb-true, eq-eqb, not-false, ltb-false, le-ltb}
 use Rattle.meaning.specs.Answers.{cleanRefusal, limitRefusal, maximaRefusal, outRefusal, plateRefusal, refuse, treeRefusal, workRefusal}
 use Rattle.meaning.specs.Plate.{connectivityFits, gridFits, maxPixels}
-use Rattle.connectivity.proofs.Tests.{tests}
-use Rattle.checks.proofs.Sizes.{grid-sizes, true-T}
+use Rattle.connectivity.proofs.Sizes.{grid-sizes}
+use Rattle.connectivity.proofs.Tests.{passes, tests}
 
 -- a condition that is not met, with none of the later ones
 pub refuse-none : (met : Bool) (number later : ℕ) → 0 < number → refuse met number later ≡ 0 → (met ≡ false) × (later ≡ 0)
@@ -91,7 +91,7 @@ clean-none k w h limit plate out work e =
     let b = refuse-none (not fits) 4 later₅ (omega arith) (a .1) in
     let c = refuse-none (ltb out (w * h)) 5 later₆ (omega arith) (b .1) in
     let d = refuse-none (ltb work (8 * (w * h))) 6 0 (omega arith) (c .1) in
-    let t : T fits = true-T fits (not-false fits (b .0)) in
+    let t : T fits = passes (not-false fits (b .0)) in
     record {
       taken = a .0;
       limit-low = leb→le 1 limit (search tests);

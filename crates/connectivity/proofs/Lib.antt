@@ -6,3 +6,4 @@ pub mod Sums
 pub mod Paths
 pub mod Component
 pub mod Touch
+pub mod Sizes

@@ -35,6 +35,29 @@ pub length-table {ℓ} : {X : Type ℓ} (n : ℕ) (f : ℕ → X) → length (ta
 unfolding table
 length-table n f = length-map (span 0 n) f ∙ length-span 0 n
 
+span-more : {X : Type 0} (g : ℕ → X) (from i : ℕ) → map g (span from (suc i)) ≡ map g (span from i) ++ (g (from + i) ∷ [])
+unfolding span
+span-more g from zero = rw add-zero
+span-more g from (suc i) = rw (add-suc, ← suc-add, span-more g (suc from) i)
+
+-- one more value
+pub table-suc : {X : Type 0} (g : ℕ → X) (i : ℕ) → table (suc i) g ≡ table i g ++ (g i ∷ [])
+unfolding table
+table-suc g i = span-more g 0 i ∙ rw zero-add
+
+-- functions that agree below n have one table
+pub table-same : {X : Type 0} (n : ℕ) (g g′ : ℕ → X) → ((p : ℕ) → p < n → g p ≡ g′ p) → table n g ≡ table n g′
+unfolding table
+table-same zero g g′ e = refl
+table-same (suc n) g g′ e =
+    table-suc g n ∙ rw (table-same n g g′ (λ p l. e p (omega arith)), e n (omega arith)) (sym (table-suc g′ n))
+
+-- a list that is mapped, by place
+pub getD-map : (h : ℕ → ℕ) (f : List ℕ) (p : ℕ) → p < length f → getD (map h f) p 0 ≡ h (getD f p 0)
+getD-map h [] p l = absurd (not-suc-le-zero l)
+getD-map h (x ∷ f) zero l = refl
+getD-map h (x ∷ f) (suc p) l = getD-map h f p (le-of-suc-le-suc l)
+
 -- ---- members
 
 elem-left : (xs ys : List ℕ) (q : ℕ) → T (elem xs q) → T (elem (xs ++ ys) q)

@@ -1,5 +1,5 @@
 -- Tests (Bools) as facts: and, or, choice; `search tests` and `omega orders`.
-use mathlib.Core.Path.{_≡_, refl, sym, ap, _∙_}
+use mathlib.Core.Path.{_≡_, refl, sym, ap, subst, _∙_}
 use mathlib.Core.Logic.{_⊎_, inl, inr}
 use mathlib.Core.Bool.{Bool, true, false, _&&_, _||_}
 use mathlib.Core.List.{List, [], _∷_, _++_, map}
@@ -10,6 +10,19 @@ use native.Mathlib.Omega.{arith}
 use lib.Dec.{T, eqb, eqb→eq, eqb-refl, leb→le, le→leb}
 use lib.ListN.{length, getD, length-map}
 use Rattle.meaning.specs.Sets.{bit, pick}
+
+-- a test that is `true` passes
+pub passes : {b : Bool} → b ≡ true → T b
+passes e = rw e tt
+
+-- both of two tests are `true`; neither is
+pub both-true : (a b : Bool) → (a && b) ≡ true → (a ≡ true) × (b ≡ true)
+both-true true b e = (refl, e)
+both-true false b e = absurd (passes e)
+
+pub neither : (a b : Bool) → (a || b) ≡ false → (a ≡ false) × (b ≡ false)
+neither true b e = let f : true ≡ false = e in absurd (subst T f tt)
+neither false b e = (refl, e)
 
 pub both : (a b : Bool) → T a → T b → T (a && b)
 both true true s t = tt

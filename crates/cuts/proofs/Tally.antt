@@ -12,10 +12,9 @@ use lib.ListN.{length, getD, set, drop, length-set, List·getD-append}
 use lib.Seq.{ext-getD, getD-set-same, getD-set-other, set-append-left, drop-at}
 use Rattle.meaning.specs.Answers.{over}
 use Rattle.meaning.specs.Sets.{area, bit, pick, sum, table}
-use Rattle.connectivity.proofs.Lists.{getD-table, length-table}
+use Rattle.connectivity.proofs.Lists.{getD-table, length-table, table-same}
 use Rattle.connectivity.proofs.Sums.{area-sum, sum-cong}
 use Rattle.connectivity.proofs.Tests.{choice, pick-le, pick-no, pick-yes}
-use Rattle.theorems.proofs.Plates.{table-same}
 use Rattle.cuts.specs.Sizes.{tally}
 
 -- a store into a table

@@ -14,6 +14,7 @@ use Rattle.meaning.specs.Opening.{atLeast, attribute, opened, openedAt}
 use Rattle.meaning.specs.Paths.{Grid}
 use Rattle.meaning.specs.Plate.{greatestGrey, grey, touch}
 use Rattle.meaning.specs.Sets.{area, nth, pick, table}
+use Rattle.connectivity.proofs.Lists.{table-same}
 use Rattle.connectivity.proofs.Sets.{area-le}
 use Rattle.connectivity.proofs.Sums.{area-pos}
 use Rattle.connectivity.proofs.Tests.{pick-no}
@@ -21,7 +22,7 @@ use Rattle.opening.proofs.Opening.{opened-below}
 use Rattle.tree.specs.Tree.{Nodes}
 use Rattle.tree.proofs.Cuts.{cut-kept, cut-own, cut-parent}
 use Rattle.tree.proofs.Nodes.{nth-inside, over-holds, own-below, parent-area, parent-below, parent-level, root-area, self-over}
-use Rattle.theorems.proofs.Plates.{at-limit, cut-is-opened, darkest-root, plate-grid, plate-nodes, table-same}
+use Rattle.theorems.proofs.Plates.{at-limit, cut-is-opened, darkest-root, plate-grid, plate-nodes}
 use Rattle.theorems.proofs.Theorems.{lost-is-sum}
 use Rattle.columns.specs.Columns.{col}
 use Rattle.columns.specs.Layout.{AREA, LEVEL, OWN, PARENT, VALUE}

@@ -13,7 +13,7 @@ use Rattle.meaning.specs.Sets.{pick, table}
 use Rattle.columns.specs.Columns.{Room, col}
 use Rattle.columns.specs.Layout.{GREY}
 use Rattle.plate.specs.Tree.{Planted}
-use Rattle.values.proofs.Tables.{table-same}
+use Rattle.connectivity.proofs.Lists.{table-same}
 use Rattle.filter.specs.Operations.{Started}
 use Rattle.filter.proofs.Results.{cleared-space, listed-count, nodes-same}
 use Rattle.entries.specs.declared.Node.{Node}

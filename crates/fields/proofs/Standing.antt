@@ -8,9 +8,9 @@ use Rattle.meaning.specs.Nodes.{anchors, levelOf, nodesOf, own}
 use Rattle.meaning.specs.Plate.{greatestGrey, touch}
 use Rattle.meaning.specs.Record.{encode, fields, nodeFields, recordOf, treeFields}
 use Rattle.meaning.specs.Sets.{gather, table}
-use Rattle.connectivity.proofs.Lists.{length-table}
+use Rattle.connectivity.proofs.Lists.{length-table, table-same}
 use Rattle.tree.proofs.Nodes.{parent-below, parent-level}
-use Rattle.theorems.proofs.Plates.{table-grey, table-same}
+use Rattle.theorems.proofs.Plates.{table-grey}
 use Rattle.columns.specs.Columns.{Room, col}
 use Rattle.columns.specs.Layout.{AREA, GREY, LEVEL, OWN, PARENT}
 use Rattle.plate.specs.Standing.{Standing}

@@ -17,7 +17,7 @@ use Rattle.meaning.specs.Opening.{Criterion, atLeast, attribute, opened, opened
 use Rattle.meaning.specs.Paths.{here}
 use Rattle.meaning.specs.Plate.{greatestGrey, grey, touch}
 use Rattle.meaning.specs.Sets.{area, bit, nth, table}
-use Rattle.connectivity.proofs.Lists.{getD-table, length-table}
+use Rattle.connectivity.proofs.Lists.{getD-table, length-table, table-same}
 use Rattle.connectivity.proofs.Sets.{greatest-le, some-elim, some-intro}
 use Rattle.connectivity.proofs.Tests.{both, both-left, both-right, same-test}
 use Rattle.opening.proofs.Area.{area-attribute}
@@ -33,7 +33,6 @@ use Rattle.plate.specs.Tree.{Planted}
 use Rattle.plate.specs.View.{view, viewed}
 use Rattle.plate.proofs.Views.{view-grey, view-length}
 use Rattle.values.specs.Values.{Cut, Delivered, Marked, Parents, Valued, Writable, hasChild, outValue}
-use Rattle.values.proofs.Tables.{table-same}
 use Rattle.values.proofs.Values.{cut-value-no, cut-value-yes}
 use Rattle.filter.specs.Operations.{Answered, cleaned, column}
 

@@ -1,10 +1,10 @@
 -- What the joint operation leaves: on a refusal, and with the record, the cut and the size list written.
-use mathlib.Core.Path.{_≡_, refl, sym, ap, subst, _∙_}
+use mathlib.Core.Path.{_≡_, refl, sym, ap, _∙_}
 use mathlib.Core.Bool.{Bool, true, false, not, _&&_, _||_}
 use mathlib.Core.List.{List, _++_}
 use Prim.Native.Nat.{ℕ, _+_, _-_, _*_, _≤_, _<_}
 use native.Mathlib.Omega.{arith}
-use lib.Dec.{T, eqb, leb, ltb}
+use lib.Dec.{eqb, leb, ltb}
 use lib.ListN.{length, drop, replicate, take, length-append, length-drop, length-replicate}
 use lib.Seq.{drop-at}
 use borrow.Author.Tests.{eqb-false, eqb-true, ne-eqb, ltb-false, le-leb, le-ltb}
@@ -14,6 +14,7 @@ use Rattle.meaning.specs.Nodes.{nodesOf}
 use Rattle.meaning.specs.Plate.{Plate}
 use Rattle.meaning.specs.Record.{recordOf}
 use Rattle.meaning.specs.Sets.{pick}
+use Rattle.connectivity.proofs.Tests.{neither}
 use Rattle.checks.proofs.Refusals.{Cleanable, Taken, clean-later, clean-none, refuse-none, tree-later}
 use Rattle.parse.specs.Parse.{Parsed, plate, readOf}
 use Rattle.roundtrip.proofs.There.{read-there}
@@ -61,10 +62,6 @@ early-none first short e = go (eqb first 0) refl e
     go : (b : Bool) → eqb first 0 ≡ b → pick b (refuse short 5 0) first ≡ 0 → (first ≡ 0) × (short ≡ false)
     go true q e = (eqb-true first 0 q, refuse-none short 5 0 (omega arith) e .0)
     go false q e = absurd (eqb-false first 0 q e)
-
-neither : (a b : Bool) → (a || b) ≡ false → (a ≡ false) × (b ≡ false)
-neither true b e = let f : true ≡ false = e in absurd (subst T f tt)
-neither false b e = (refl, e)
 
 -- the sizes that are not refused
 record Fits (k w h limit pixels out counted lost work : ℕ) : Type 0 where

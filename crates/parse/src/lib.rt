@@ -2,7 +2,6 @@
 ghost use mathlib.Core.Path.{_≡_};
 ghost use Prim.Native.Nat.{_+_, _*_, _<_, _≤_};
 ghost use lib.ListN.{length};
-ghost use Rattle.meaning.specs.Plate.{connectivityFits};
 ghost use Rattle.varint.specs.Field.{reading};
 ghost use Rattle.columns.specs.Columns.{Room};
 ghost use Rattle.parse.specs.Parse.{parse, ParsedWork};
@@ -32,13 +31,6 @@ const GREY: usize = 0;
 
 // The column of the levels, by node.
 const LEVEL: usize = 3;
-
-// Whether k is a connectivity.
-fn connectivity_fits(k: u32) -> bool
-    ensures { λ r. ⌜ r ≡ connectivityFits k ⌝ }
-{
-    k == 4 || k == 8
-}
 
 // Reads node i, behind the root, and stores its level.
 fn read_node(s: &[u8], at: usize, work: &mut [u32], n: usize, i: usize) -> Step
@@ -150,7 +142,7 @@ pub fn parse_record(s: &[u8], work: &mut [u32]) -> Parse
     let Field::Value(connectivity, at3) = f3 else {
         return Parse::Early(varint::refusal(f3));
     };
-    if !connectivity_fits(connectivity) {
+    if !checks::connectivity_fits(connectivity) {
         return Parse::Early(22);
     }
     let f4 = varint::read_field(s, at3, 1, pixels);

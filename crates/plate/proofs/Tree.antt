@@ -19,7 +19,7 @@ use Rattle.columns.specs.Columns.{Room, col}
 use Rattle.columns.specs.Layout.{Buildable, Built, GREY}
 use Rattle.columns.proofs.Columns.{frame-room, frame-trans}
 use Rattle.checks.proofs.Refusals.{Taken, plate-taken, taken-few}
-use Rattle.checks.proofs.Sizes.{Sizes, grid-sizes}
+use Rattle.connectivity.proofs.Sizes.{Sizes, grid-sizes}
 use Rattle.plate.specs.Tree.{Grown, Loaded, Planted, Ready}
 
 -- the grid of a plate that fits

@@ -4,13 +4,13 @@ use mathlib.Core.Logic.{_⊎_, inl, inr}
 use mathlib.Core.Bool.{Bool, true, false}
 use mathlib.Core.List.{List, [], _∷_, map}
 use Prim.Native.Nat.{ℕ, zero, suc, _+_, _-_, _*_, _≤_, _<_}
-use native.Mathlib.Nat.{not-suc-le-zero, le-of-suc-le-suc}
 use native.Mathlib.Decide.{decLt}
 use native.Mathlib.Omega.{arith}
 use lib.Dec.{T, ltb, ltb→lt, nltb→le, not-T}
 use lib.ListN.{length, getD, length-map, List·getD-eq-default}
 use Rattle.meaning.specs.Paths.{here}
 use Rattle.meaning.specs.Plate.{greatestGrey, grey, negative}
+use Rattle.connectivity.proofs.Lists.{getD-map}
 use Rattle.connectivity.proofs.Tests.{choice, pick-no}
 use Rattle.columns.specs.Columns.{Frame, Stored, col}
 use Rattle.columns.specs.Layout.{GREY}
@@ -28,14 +28,9 @@ viewed-low true g l = omega arith
 viewed-low false g l = l
 
 -- the grey of a pixel of the negative is the negative of its grey
-map-at : (h : ℕ → ℕ) (f : List ℕ) (p : ℕ) → p < length f → getD (map h f) p 0 ≡ h (getD f p 0)
-map-at h [] p l = absurd (not-suc-le-zero l)
-map-at h (x ∷ f) zero l = refl
-map-at h (x ∷ f) (suc p) l = map-at h f p (le-of-suc-le-suc l)
-
 pub view-grey : (negated : Bool) (f : List ℕ) (p : ℕ) → p < length f → grey (view negated f) p ≡ viewed negated (grey f p)
 unfolding negative
-view-grey true f p l = map-at (λ (g : ℕ). greatestGrey - g) f p l
+view-grey true f p l = getD-map (λ (g : ℕ). greatestGrey - g) f p l
 view-grey false f p l = refl
 
 -- beyond its pixels a plate is 0, as a column is beyond its end

@@ -18,7 +18,7 @@ use Rattle.meaning.specs.Record.{recordOf}
 use Rattle.columns.specs.Columns.{Frame, Room, col}
 use Rattle.columns.specs.Layout.{Buildable, Built, GREY}
 use Rattle.columns.proofs.Columns.{frame-room, frame-trans}
-use Rattle.checks.proofs.Sizes.{Sizes, grid-sizes}
+use Rattle.connectivity.proofs.Sizes.{Sizes, grid-sizes}
 use Rattle.plate.specs.Standing.{Standing}
 use Rattle.plate.specs.Tree.{Grown}
 use Rattle.plate.proofs.Tree.{grow}

@@ -1,5 +1,5 @@
 -- The operations that read a record, where nothing is refused: the tree of its plate stands in the work space.
-use mathlib.Core.Path.{_≡_, refl, sym, ap, subst, _∙_}
+use mathlib.Core.Path.{_≡_, refl, sym, ap, _∙_}
 use mathlib.Core.Bool.{Bool, true, false, not, _&&_, _||_}
 use mathlib.Core.List.{List, _++_}
 use Prim.Native.Nat.{ℕ, _-_, _*_, _≤_, _<_}
@@ -14,9 +14,9 @@ use Rattle.meaning.specs.Plate.{greatestGrey, touch}
 use Rattle.columns.specs.Columns.{Room}
 use Rattle.columns.specs.Layout.{Greys}
 use Rattle.columns.proofs.Columns.{frame-trans}
-use Rattle.connectivity.proofs.Tests.{tests}
+use Rattle.connectivity.proofs.Sizes.{grid-sizes}
+use Rattle.connectivity.proofs.Tests.{neither, passes, tests}
 use Rattle.checks.proofs.Refusals.{refuse-none}
-use Rattle.checks.proofs.Sizes.{grid-sizes, true-T}
 use Rattle.plate.specs.Standing.{Standing}
 use Rattle.parse.specs.Parse.{Parsed}
 use Rattle.fields.specs.Fields.{plateIn}
@@ -27,11 +27,6 @@ use Rattle.readtree.proofs.Finding.{TreeFound, cleared}
 use Rattle.record.specs.declared.Head.{Head}
 use Rattle.record.specs.declared.SizeHead.{SizeHead}
 use Rattle.record.specs.Reading.{CutRecord, ListedSizes, ReadRecord}
-
--- neither of two tests passes
-neither : (a b : Bool) → (a || b) ≡ false → (a ≡ false) × (b ≡ false)
-neither true b e = let f : true ≡ false = e in absurd (subst T f tt)
-neither false b e = (refl, e)
 
 module _ {P : Parsed} {wd ht k count : ℕ} {work w₁ : List ℕ} (t : TreeFound P wd ht k work w₁ count) where
   long : length (t .f) ≡ wd * ht
@@ -72,7 +67,7 @@ module _ {P : Parsed} {wd ht k count : ℕ} {work w₁ : List ℕ} (t : TreeFoun
         let fits : Bool = leb 1 limit && leb limit (wd * ht) in
         let b = refuse-none (not fits) 4 later (omega arith) (sym e ∙ z) in
         let c = refuse-none (ltb (length out) (wd * ht)) 5 0 (omega arith) (b .1) in
-        let u : T fits = true-T fits (not-false fits (b .0)) in
+        let u : T fits = passes (not-false fits (b .0)) in
         (leb→le limit (wd * ht) (search tests), ltb-false (length out) (wd * ht) (c .0))
 
     pub cut-done : {out′ w₂ w₃ : List ℕ} → CutWritten limit (wd * ht) count w₁ w₂ out out′

@@ -4,14 +4,13 @@ use mathlib.Core.Bool.{Bool, true, false, not, _&&_}
 use mathlib.Core.List.{List, [], _∷_, _++_}
 use Prim.Native.Nat.{ℕ, zero, suc, _+_, _-_, _*_, _≤_, _<_}
 use native.Mathlib.Omega.{arith}
-use lib.Dec.{T, eqb, leb, ltb, eqb→eq}
+use lib.Dec.{eqb, leb, ltb}
 use lib.ListN.{length, drop}
 use borrow.Author.Tests.{eqb-true}
 use Rattle.meaning.specs.Plate.{Plate, connectivityFits, greatestGrey, maxPixels, maxSide}
 use Rattle.meaning.specs.Record.{recordOf, varint}
 use Rattle.meaning.specs.Sets.{nth, pick}
-use Rattle.connectivity.proofs.Tests.{tests}
-use Rattle.theorems.proofs.Plates.{passes}
+use Rattle.connectivity.proofs.Tests.{both-true, passes}
 use Rattle.varint.specs.Field.{Reading, accepted, fieldAt, fieldBound, fieldOf, lead, refused, starts, value}
 use Rattle.parse.specs.Parse.{Parsed, Values, bad, compared, early, fromConnectivity, fromCount, fromHeight, fromNodes, fromOwn, fromRoot, good, greysFrom, late, lateOf, levelsFrom, more, onField, onValue, onValues, parse, plate, readOf, sameBytes}
 use Rattle.parse.proofs.Sound.{parse-plate}
@@ -141,10 +140,6 @@ module _ (s : List ℕ) where
   read-numbered work = compared-numbered (parse s work) (parse-numbered work)
 
 -- ---- what is accepted
-
-both-true : (a b : Bool) → (a && b) ≡ true → (a ≡ true) × (b ≡ true)
-both-true true b e = (refl, e)
-both-true false b e = absurd (passes e)
 
 bytes-are : (xs ys : List ℕ) → sameBytes xs ys ≡ true → xs ≡ ys
 unfolding sameBytes

@@ -16,13 +16,13 @@ use Rattle.meaning.specs.Paths.{Grid}
 use Rattle.meaning.specs.Plate.{Plate, connectivityFits, greatestGrey, grey, maxPixels, maxSide, touch}
 use Rattle.meaning.specs.Record.{encode, fields, nodeFields, recordOf, treeFields, varint}
 use Rattle.meaning.specs.Sets.{area, elem, gather, nth, place, span, sum, table}
-use Rattle.connectivity.proofs.Lists.{distinct-area, getD-table, length-table}
+use Rattle.connectivity.proofs.Lists.{distinct-area, getD-table, length-table, table-suc}
 use Rattle.connectivity.proofs.Sets.{area-le}
 use Rattle.connectivity.proofs.Sums.{area-pos}
-use Rattle.connectivity.proofs.Tests.{either-cases}
+use Rattle.connectivity.proofs.Tests.{either-cases, passes}
 use Rattle.tree.specs.Tree.{Nodes}
 use Rattle.tree.proofs.Nodes.{nodes-distinct, nth-inside, over-holds, own-below, own-level, parent-below, parent-level, root-area, self-over, some-node}
-use Rattle.theorems.proofs.Plates.{passes, plate-grid, plate-nodes, plate-sizes, plate-some, table-grey}
+use Rattle.theorems.proofs.Plates.{plate-grid, plate-nodes, plate-sizes, plate-some, table-grey}
 use Rattle.varint.specs.Field.{accepted, fieldAt, fieldBound}
 use Rattle.varint.proofs.Encode.{encode-read, encode-rest}
 use Rattle.parse.specs.Parse.{good, greysFrom, levelsFrom, parse, plate, readOf, sameBytes}
@@ -39,18 +39,6 @@ gather-cong : (m : ℕ) (g g′ : ℕ → List ℕ) → ((i : ℕ) → g i ≡ g
 unfolding gather
 gather-cong zero g g′ e = refl
 gather-cong (suc m) g g′ e = rw (gather-cong m g g′ e, e m)
-
-map-span-more : (g : ℕ → ℕ) (from n : ℕ) → map g (span from (suc n)) ≡ map g (span from n) ++ (g (from + n) ∷ [])
-unfolding span
-map-span-more g from zero = ap (λ (x : ℕ). g x ∷ []) (sym (add-zero from))
-map-span-more g from (suc n) =
-    ap (λ (l : List ℕ). g from ∷ l)
-    (map-span-more g (suc from) n ∙ ap (λ (x : ℕ). map g (span (suc from) n) ++ (g x ∷ [])) (suc-add from n ∙ sym (add-suc from n)))
-
--- one value more
-pub table-more : (n : ℕ) (g : ℕ → ℕ) → table (suc n) g ≡ table n g ++ (g n ∷ [])
-unfolding table
-table-more n g = map-span-more g 0 n ∙ ap (λ (x : ℕ). map g (span 0 n) ++ (g x ∷ [])) (zero-add n)
 
 -- ---- the fields of a plate's tree
 
@@ -84,7 +72,7 @@ module _ {k w h : ℕ} {f : List ℕ} (pl : Plate k w h f) (s : List ℕ) where
   nodes = plate-nodes pl
 
   few : n ≤ 16777216
-  few = omega (arith, pl .long, plate-sizes pl .pixels)
+  few = omega (arith, pl .long, plate-sizes pl .few-pixels)
 
   level-low : (i : ℕ) → i < length xs → level i ≤ greatestGrey
   level-low i l = pl .greys (nth xs i) (nth-inside grid nodes i l)
@@ -137,7 +125,7 @@ module _ {k w h : ℕ} {f : List ℕ} (pl : Plate k w h f) (s : List ℕ) where
       let st₂ : Stands s at₂ (size i ∷ rest) = encode-rest s at₁ rise (size i ∷ rest) [] st₁ in
       let r₃ : fieldAt s at₂ 1 n ≡ accepted (size i) at₃ = encode-read s at₂ (size i) rest [] st₂ 1 n (omega (arith, few, area)) (area .0) (area .1) in
       let sum : nth lv (length lv - back) + rise ≡ level i = omega arith in
-      let grown : lv ++ ((nth lv (length lv - back) + rise) ∷ []) ≡ table (suc i) level = ap (λ (x : ℕ). lv ++ (x ∷ [])) sum ∙ sym (table-more i level) in
+      let grown : lv ++ ((nth lv (length lv - back) + rise) ∷ []) ≡ table (suc i) level = ap (λ (x : ℕ). lv ++ (x ∷ [])) sum ∙ sym (table-suc level i) in
       record {
         next = at₃;
         reads = rw (r₁, r₂, r₃, grown);
@@ -255,17 +243,17 @@ module _ {k w h : ℕ} {f : List ℕ} (pl : Plate k w h f) where
       let kind : k ≤ 8 = kind-low k (pl .kind) in
       let few-nodes : count ≤ w * h = omega (arith, count-low pl bytes, pl .long) in
       let dark : root ≤ greatestGrey = level-low pl bytes 0 some-nodes in
-      let r₁ : fieldAt bytes 0 1 maxSide ≡ accepted w at₁ = encode-read bytes 0 w (h ∷ rest₂) [] st₀ 1 maxSide (omega (arith, sz .wide)) (sz .width) (sz .wide) in
+      let r₁ : fieldAt bytes 0 1 maxSide ≡ accepted w at₁ = encode-read bytes 0 w (h ∷ rest₂) [] st₀ 1 maxSide (omega (arith, sz .wide .most)) (sz .wide .least) (sz .wide .most) in
       let st₁ : Stands bytes at₁ (h ∷ rest₂) = encode-rest bytes 0 w (h ∷ rest₂) [] st₀ in
-      let r₂ : fieldAt bytes at₁ 1 maxSide ≡ accepted h at₂ = encode-read bytes at₁ h rest₂ [] st₁ 1 maxSide (omega (arith, sz .high)) (sz .height) (sz .high) in
+      let r₂ : fieldAt bytes at₁ 1 maxSide ≡ accepted h at₂ = encode-read bytes at₁ h rest₂ [] st₁ 1 maxSide (omega (arith, sz .high .most)) (sz .high .least) (sz .high .most) in
       let st₂ : Stands bytes at₂ rest₂ = encode-rest bytes at₁ h rest₂ [] st₁ in
       let r₃ : fieldAt bytes at₂ 0 (fieldBound - 1) ≡ accepted k at₃ = encode-read bytes at₂ k (count ∷ rest₃) [] st₂ 0 (fieldBound - 1) (omega arith) (omega arith) (omega arith) in
       let st₃ : Stands bytes at₃ (count ∷ rest₃) = encode-rest bytes at₂ k (count ∷ rest₃) [] st₂ in
-      let r₄ : fieldAt bytes at₃ 1 (w * h) ≡ accepted count at₄ = encode-read bytes at₃ count rest₃ [] st₃ 1 (w * h) (omega (arith, sz .pixels)) some-nodes few-nodes in
+      let r₄ : fieldAt bytes at₃ 1 (w * h) ≡ accepted count at₄ = encode-read bytes at₃ count rest₃ [] st₃ 1 (w * h) (omega (arith, sz .few-pixels)) some-nodes few-nodes in
       let st₄ : Stands bytes at₄ rest₃ = encode-rest bytes at₃ count rest₃ [] st₃ in
       let r₅ : fieldAt bytes at₄ 0 greatestGrey ≡ accepted root at₅ = encode-read bytes at₄ root (w * h ∷ fields-nodes) [] st₄ 0 greatestGrey (omega arith) (omega arith) dark in
       let st₅ : Stands bytes at₅ (w * h ∷ fields-nodes) = encode-rest bytes at₄ root (w * h ∷ fields-nodes) [] st₄ in
-      let r₆ : fieldAt bytes at₅ 1 (w * h) ≡ accepted (w * h) at₆ = encode-read bytes at₅ (w * h) fields-nodes [] st₅ 1 (w * h) (omega (arith, sz .pixels)) (omega (arith, plate-some pl, pl .long)) (le-refl (w * h)) in
+      let r₆ : fieldAt bytes at₅ 1 (w * h) ≡ accepted (w * h) at₆ = encode-read bytes at₅ (w * h) fields-nodes [] st₅ 1 (w * h) (omega (arith, sz .few-pixels)) (omega (arith, plate-some pl, pl .long)) (le-refl (w * h)) in
       let st₆ : Stands bytes at₆ fields-nodes = encode-rest bytes at₅ (w * h) fields-nodes [] st₅ in
       let thr = levels-there pl bytes (count - 1) 1 at₆ fields-own (omega (arith, some-nodes)) (omega arith) st₆ in
       let spl = greys-there pl bytes (length f) 0 (thr .next) (zero-add (length f)) (thr .stands) in
@@ -275,7 +263,7 @@ module _ {k w h : ℕ} {f : List ℕ} (pl : Plate k w h f) where
       ap (λ (m : ℕ). greysFrom bytes m (table count (levelOf (length f) (touch k w) (grey f) (nodesOf k w f))) m (thr .next)) (sym (pl .long))
       ∙ spl .reads ∙ ap (λ (l : List ℕ). good l (spl .next)) (table-grey f) in
       let ended : length bytes ≤ spl .next = omega (arith, length-drop (spl .next) bytes, ap length (spl .ends)) in
-      rw (r₁, r₂, le-ltb maxPixels (w * h) (sz .pixels), r₃, pl .kind, r₄, le-ltb work (8 * (w * h)) room, r₅, r₆, r₇, r₈, le-ltb (spl .next) (length bytes) ended)
+      rw (r₁, r₂, le-ltb maxPixels (w * h) (sz .few-pixels), r₃, pl .kind, r₄, le-ltb work (8 * (w * h)) room, r₅, r₆, r₇, r₈, le-ltb (spl .next) (length bytes) ended)
 
 -- ---- and 24
 

@@ -1,9 +1,9 @@
 -- From lists of greys to the theory: a plate is a grid, its anchors number its nodes, and its opening, cut and size list at a pixel or an area.
 use mathlib.Core.Path.{_≡_, refl, sym, ap, _∙_}
-use mathlib.Core.Bool.{Bool, true, _&&_}
+use mathlib.Core.Bool.{Bool}
 use mathlib.Core.List.{List, [], _∷_, map}
 use Prim.Native.Nat.{ℕ, zero, suc, _+_, _-_, _*_, _≤_, _<_}
-use native.Mathlib.Nat.{mul-comm, mul-le-mul-right, le-antisymm, not-suc-le-zero, le-of-suc-le-suc}
+use native.Mathlib.Nat.{mul-comm, le-antisymm}
 use native.Mathlib.Omega.{arith}
 use lib.Dec.{T, leb, leb→le, le→leb}
 use lib.ListN.{length, getD, length-map}
@@ -12,13 +12,13 @@ use Rattle.meaning.specs.Cut.{cut, cutAt, darkest, total}
 use Rattle.meaning.specs.Nodes.{nodesOf}
 use Rattle.meaning.specs.Opening.{Criterion, atLeast, attribute, closed, opened, openedAt}
 use Rattle.meaning.specs.Paths.{Grid}
-use Rattle.meaning.specs.Plate.{Plate, greatestGrey, grey, gridFits, maxPixels, maxSide, negative, touch}
+use Rattle.meaning.specs.Plate.{Plate, greatestGrey, grey, negative, touch}
 use Rattle.meaning.specs.Sets.{elem, lowest, nth, place, sum, table}
 use Rattle.connectivity.specs.Members.{Lowest}
-use Rattle.connectivity.proofs.Lists.{elem-nth, getD-table, length-table, place-is}
+use Rattle.connectivity.proofs.Sizes.{Sizes, grid-sizes}
+use Rattle.connectivity.proofs.Lists.{getD-map, table-same, elem-nth, getD-table, length-table, place-is}
 use Rattle.connectivity.proofs.Sets.{lowest-is}
 use Rattle.connectivity.proofs.Sums.{sum-cong}
-use Rattle.connectivity.proofs.Tests.{tests}
 use Rattle.connectivity.proofs.Touch.{list-grid}
 use Rattle.opening.proofs.Area.{area-attribute}
 use Rattle.opening.proofs.Attribute.{attribute-criterion}
@@ -26,21 +26,6 @@ use Rattle.opening.proofs.Opening.{opened-below}
 use Rattle.tree.specs.Tree.{Nodes}
 use Rattle.tree.proofs.Losses.{cut-opened}
 use Rattle.tree.proofs.Nodes.{anchors-nodes, nth-inside, root-level, some-node}
-use Rattle.theorems.specs.Sizes.{Sizes}
-
--- a test that is `true` passes
-pub passes : {b : Bool} → b ≡ true → T b
-passes e = rw e tt
-
-pub sizes-fit : (w h : ℕ) → T (gridFits w h) → Sizes w h
-unfolding gridFits
-sizes-fit w h t =
-    let a : T (leb 1 w) = search tests in
-    let b : T (leb w maxSide) = search tests in
-    let c : T (leb 1 h) = search tests in
-    let d : T (leb h maxSide) = search tests in
-    let e : T (leb (w * h) maxPixels) = search tests in
-    record { width = leb→le 1 w a; wide = leb→le w maxSide b; height = leb→le 1 h c; high = leb→le h maxSide d; pixels = leb→le (w * h) maxPixels e }
 
 -- ---- lists as functions
 
@@ -53,33 +38,18 @@ table-grey f =
     ext-getD 0 (table (length f) (grey f)) f (length-table (length f) (grey f))
     (λ i l. getD-table (length f) (grey f) i 0 (rw (length-table (length f) (grey f)) at l))
 
--- functions that agree below n have one table
-pub table-same : (n : ℕ) (g g′ : ℕ → ℕ) → ((p : ℕ) → p < n → g p ≡ g′ p) → table n g ≡ table n g′
-table-same n g g′ e =
-    ext-getD 0 (table n g) (table n g′) (length-table n g ∙ sym (length-table n g′))
-    (λ i l.
-    let b : i < n = rw (length-table n g) at l in
-    getD-table n g i 0 b ∙ e i b ∙ sym (getD-table n g′ i 0 b))
-
-pub grey-map : (g : ℕ → ℕ) (f : List ℕ) (p : ℕ) → p < length f → grey (map g f) p ≡ g (grey f p)
-grey-map g [] p l = absurd (not-suc-le-zero l)
-grey-map g (x ∷ f) zero l = refl
-grey-map g (x ∷ f) (suc p) l = grey-map g f p (le-of-suc-le-suc l)
-
 -- ---- a plate
 
 module _ {k w h : ℕ} {f : List ℕ} (plate : Plate k w h f) where
   pub plate-sizes : Sizes w h
-  plate-sizes = sizes-fit w h (passes (plate .sizes))
+  plate-sizes = grid-sizes w h (plate .sizes)
 
   pub plate-some : 0 < length f
-  plate-some =
-      let s : Sizes w h = plate-sizes in
-      omega (arith, plate .long, mul-le-mul-right {m = 1} {n = w} h (s .width), s .height)
+  plate-some = omega (arith, plate .long, plate-sizes .some-pixels)
 
   -- both grids are connected, so some set always qualifies
   pub plate-grid : Grid (length f) (touch k w)
-  plate-grid = list-grid k w h f (plate-sizes .width) (plate .long ∙ mul-comm w h)
+  plate-grid = list-grid k w h f (plate-sizes .wide .least) (plate .long ∙ mul-comm w h)
 
   -- the list of the anchors numbers the nodes
   pub plate-nodes : Nodes (length f) (touch k w) (grey f) (nodesOf k w f)
@@ -94,7 +64,7 @@ module _ {k w h : ℕ} {f : List ℕ} (plate : Plate k w h f) where
 
   pub negative-grey : (p : ℕ) → p < length f → grey (negative f) p ≡ greatestGrey - grey f p
   unfolding negative
-  negative-grey p l = grey-map (λ (g : ℕ). greatestGrey - g) f p l
+  negative-grey p l = getD-map (λ (g : ℕ). greatestGrey - g) f p l
 
   pub negative-plate : Plate k w h (negative f)
   negative-plate = record {
@@ -180,5 +150,5 @@ module _ {k w h : ℕ} {f : List ℕ} (plate : Plate k w h f) where
   pub closed-grey : (limit p : ℕ) → p < length f → grey (closed k w limit f) p ≡ greatestGrey - grey (opened k w limit (negative f)) p
   unfolding closed negative
   closed-grey limit p l =
-      grey-map (λ (g : ℕ). greatestGrey - g) (opened k w limit (negative f)) p
+      getD-map (λ (g : ℕ). greatestGrey - g) (opened k w limit (negative f)) p
       (omega (arith, opened-length (negative-plate plate) limit, negative-length plate))

@@ -17,6 +17,7 @@ use Rattle.meaning.specs.Paths.{Grid, Joined}
 use Rattle.meaning.specs.Plate.{NowhereLighter, Plate, greatestGrey, grey, negative, touch}
 use Rattle.meaning.specs.Sets.{Within, has, nth, pick, sum, table}
 use Rattle.connectivity.proofs.Component.{component-complete, component-sound}
+use Rattle.connectivity.proofs.Lists.{table-same}
 use Rattle.opening.proofs.Absorb.{opened-cong}
 use Rattle.opening.proofs.Area.{area-attribute, area-words}
 use Rattle.opening.proofs.Attribute.{attribute-one, attribute-twice}
@@ -28,7 +29,7 @@ use Rattle.tree.proofs.Losses.{area-total-all, cut-opened, losses-total, lost-n
 use Rattle.tree.proofs.NodeSets.{anchor-holds, anchor-lowest, level-least, node-number, nodes-chain, number-node, number-only, parent-holds}
 use Rattle.tree.proofs.Nodes.{holds-over, nested-or-apart, nodes-before, nth-inside, over-holds, own-below, own-level, own-over, parent-area, parent-below, parent-smallest, root-over}
 use Rattle.tree.proofs.Rises.{opened-sum}
-use Rattle.theorems.proofs.Plates.{at-limit, closed-grey, cut-grey, cut-is-opened, darkest-root, negative-length, negative-plate, opened-below-plate, opened-grey, opened-length, opened-plate, plate-grid, plate-nodes, plate-some, table-grey, table-same, total-cut}
+use Rattle.theorems.proofs.Plates.{at-limit, closed-grey, cut-grey, cut-is-opened, darkest-root, negative-length, negative-plate, opened-below-plate, opened-grey, opened-length, opened-plate, plate-grid, plate-nodes, plate-some, table-grey, total-cut}
 
 -- ---- 1. paths and components
 

@@ -5,7 +5,7 @@ use borrow.Author.Needs.{needs}
 use Rattle.checks.proofs.grid_fits.Statement.{statement}
 use Rattle.checks.proofs.grid_fits.Tie as tie
 use Rattle.meaning.specs.Plate.{gridFits}
-use Rattle.checks.proofs.Sizes.{product, side-is}
+use Rattle.connectivity.proofs.Sizes.{product, side-is}
 
 side-fits-requires : tie.Need-side-fits-requires
 side-fits-requires c κs = search needs

@@ -8,7 +8,7 @@ use borrow.Author.Tests.{eq-eqb, ne-eqb, not-true, not-false}
 use Rattle.checks.proofs.plate_refusal.Statement.{statement}
 use Rattle.checks.proofs.plate_refusal.Tie as tie
 use Rattle.meaning.specs.Plate.{connectivityFits, gridFits}
-use Rattle.checks.proofs.Sizes.{grid-sizes}
+use Rattle.connectivity.proofs.Sizes.{grid-sizes}
 
 connectivity-fits-requires : tie.Need-connectivity-fits-requires
 connectivity-fits-requires c κs = search needs

@@ -1,0 +1,4 @@
+-- The definition computed on files, and the laws of its pieces.
+pub mod Plates
+pub mod Files
+pub mod Examples

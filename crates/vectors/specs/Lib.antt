@@ -1,0 +1,2 @@
+-- Places in a line of a case.
+pub mod Places

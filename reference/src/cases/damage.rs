@@ -1,0 +1,177 @@
+//! Damaged records: cut short, lengthened, changed byte by byte, with fields
+//! out of form and out of range, with too little work space.
+
+use super::{Case, Plate};
+
+/// All of them.
+pub fn cases(cases: &mut Vec<Case>) {
+    let plate = Plate::small();
+    let record = plate.described(4).1;
+    truncated(&record, cases);
+    changed(&record, cases);
+    changed(&Plate::new(1, 1, |_| 7).described(4).1, cases);
+    reformed(&record, cases);
+    ranged(&record, cases);
+    spaced(&record, cases);
+    long_fields(cases);
+    other_plates(cases);
+}
+
+/// The record read, cut and listed, with room for 12 pixels.
+fn all(record: &[u8], cases: &mut Vec<Case>) {
+    cases.push(Case::on_bytes("read", 13, 97, record));
+    let mut cut = Case::on_bytes("cut", 12, 96, record);
+    cut.limit = 2;
+    cases.push(cut);
+    let mut sizes = Case::on_bytes("sizes", 11, 98, record);
+    sizes.limit = 12;
+    cases.push(sizes);
+}
+
+/// The record read alone.
+fn read(record: &[u8], cases: &mut Vec<Case>) {
+    cases.push(Case::on_bytes("read", 12, 97, record));
+}
+
+/// Every truncation, and bytes behind the end.
+fn truncated(record: &[u8], cases: &mut Vec<Case>) {
+    for length in 0..=record.len() {
+        all(&record[..length], cases);
+    }
+    for byte in [0, 1, 127, 128, 255] {
+        all(&[record, &[byte]].concat(), cases);
+    }
+    all(&[record, record].concat(), cases);
+}
+
+/// Every byte changed to some values.
+fn changed(record: &[u8], cases: &mut Vec<Case>) {
+    for i in 0..record.len() {
+        let b = record[i];
+        let mut values = vec![0, 1, 2, 3, 4, 8, 127, 128, 132, 255];
+        values.extend([b.wrapping_sub(1), b.wrapping_add(1), b ^ 128]);
+        values.sort_unstable();
+        values.dedup();
+        for value in values.into_iter().filter(|&value| value != b) {
+            let mut other = record.to_vec();
+            other[i] = value;
+            read(&other, cases);
+        }
+    }
+}
+
+/// Each field in forms that are not the shortest, or too large, or unended.
+fn reformed(record: &[u8], cases: &mut Vec<Case>) {
+    for i in 0..record.len() {
+        let b = record[i];
+        let forms: [&[u8]; 10] = [
+            &[b | 128, 0],
+            &[b | 128, 128, 0],
+            &[b | 128, 128, 128, 128, 0],
+            &[b | 128, 128, 128, 128, 16],
+            &[255, 255, 255, 255, 15],
+            &[128, 128, 128, 128, 128, 0],
+            &[128, 128, 128, 128, 128, 1],
+            &[255, 255, 255, 255, 255, 255, 255, 255, 255, 1],
+            &[128; 12],
+            &[b | 128],
+        ];
+        all(&[&record[..i], forms[0], &record[i + 1..]].concat(), cases);
+        for form in forms {
+            read(&[&record[..i], form, &record[i + 1..]].concat(), cases);
+        }
+        read(&[&record[..i], &[128; 40]].concat(), cases);
+    }
+}
+
+/// Fields just inside and just outside their ranges.
+fn ranged(record: &[u8], cases: &mut Vec<Case>) {
+    let sides: [&[u8]; 9] = [
+        &[0, 3],
+        &[4, 0],
+        &[128, 128, 2, 1],
+        &[129, 128, 2, 1],
+        &[1, 129, 128, 2],
+        &[128, 128, 2, 128, 4],
+        &[128, 128, 2, 129, 4],
+        &[128, 32, 128, 32],
+        &[129, 32, 128, 32],
+    ];
+    for side in sides {
+        read(&[side, &record[2..]].concat(), cases);
+        read(side, cases);
+    }
+    let places = [
+        (2, 300),
+        (3, 12),
+        (3, 13),
+        (4, 255),
+        (4, 256),
+        (5, 12),
+        (5, 13),
+        (13, 246),
+        (13, 245),
+    ];
+    for (place, value) in places {
+        let field = crate::varint::spelled(value);
+        all(
+            &[&record[..place], &field, &record[place + 1..]].concat(),
+            cases,
+        );
+    }
+}
+
+/// Little work space: 6 stands behind the node count and ahead of the rest.
+fn spaced(record: &[u8], cases: &mut Vec<Case>) {
+    for length in 0..8 {
+        for room in [0, 95] {
+            cases.push(Case::on_bytes("read", 12, room, &record[..length]));
+        }
+    }
+    for name in ["read", "cut", "sizes"] {
+        for room in [0, 1, 95, 96] {
+            cases.push(Case::on_bytes(name, 0, room, record));
+            cases.push(Case::on_bytes(name, 12, room, &[record, &[0]].concat()));
+        }
+    }
+}
+
+/// A record with fields of two bytes, cut short in many places.
+fn long_fields(cases: &mut Vec<Case>) {
+    let plate = Plate::new(20, 9, |p| (p * 89 % 211) as u8);
+    let record = plate.described(8).1;
+    for length in (0..=record.len()).step_by(23) {
+        cases.push(Case::on_bytes("read", 180, 1_440, &record[..length]));
+    }
+    for i in (0..record.len()).step_by(17) {
+        let mut other = record.clone();
+        other[i] ^= 1;
+        cases.push(Case::on_bytes("read", 180, 1_441, &other));
+    }
+    cases.push(Case::on_bytes("read", 181, 1_440, &record));
+}
+
+/// Records whose fields are in range and which are no plate's: 24.
+fn other_plates(cases: &mut Vec<Case>) {
+    let records: [&[u8]; 7] = [
+        // one pixel, a node without a pixel
+        &[1, 1, 4, 2, 7, 1, 1, 1, 1, 0],
+        // two pixels of one grey as two nodes
+        &[2, 1, 4, 2, 7, 2, 1, 1, 1, 1, 1],
+        // the right record of two pixels, and one with the nodes' areas exchanged
+        &[2, 1, 4, 2, 7, 2, 1, 3, 1, 0, 1],
+        &[2, 1, 4, 2, 7, 1, 1, 3, 2, 0, 1],
+        // nodes out of their order
+        &[3, 1, 4, 3, 1, 3, 1, 9, 1, 2, 4, 1, 1, 0, 2],
+        &[3, 1, 4, 3, 1, 3, 1, 4, 1, 2, 9, 1, 2, 0, 1],
+        // the same bytes for the other connectivity
+        &[2, 2, 8, 3, 0, 4, 1, 5, 1, 2, 5, 1, 1, 0, 0, 2],
+    ];
+    for record in records {
+        all(record, cases);
+        // 24 stands ahead of 4 and 5
+        for name in ["read", "cut", "sizes"] {
+            cases.push(Case::on_bytes(name, 0, 97, record));
+        }
+    }
+}
