@@ -55,7 +55,7 @@ fn lines(points: Vec<(&str, Point)>, colour: &str, name: &str, place: usize) -> 
             "<polyline points=\"{path}\" fill=\"none\" stroke=\"{colour}\" stroke-width=\"1.5\"/>\n"
         );
     }
-    let y = MARGIN + 18.0 * place as f64;
+    let y = MARGIN - 32.0 + 18.0 * place as f64;
     text + &format!(
         "<text x=\"{}\" y=\"{y}\" fill=\"{colour}\">{name}, six pictures</text>\n",
         MARGIN + 12.0
