@@ -139,6 +139,25 @@ static void check_record(void)
     free(losses);
 }
 
+static void check_joint(void)
+{
+    uint8_t *bytes = filled(27), *out = filled(PIXELS);
+    uint32_t *work = filled(WORK * sizeof *work), *counts = filled(11 * sizeof *counts);
+    uint64_t *losses = filled(11 * sizeof *losses);
+    struct livukoe_joint joint = livukoe_write_cut_list(
+        SMALL, PIXELS, WIDTH, HEIGHT, 4, 2, bytes, 26, out, PIXELS, counts, 11, losses, 11, work, WORK);
+    EXPECT(joint.refusal == LIVUKOE_OUTPUT_SHORT && joint.length == 0 && all(bytes, 77, 27) && all(out, 77, PIXELS));
+    joint = livukoe_write_cut_list(
+        SMALL, PIXELS, WIDTH, HEIGHT, 4, 2, bytes, 27, out, PIXELS, counts, 11, losses, 11, work, WORK);
+    EXPECT(joint.refusal == 0 && joint.length == 27 && joint.nodes == 4 && joint.darkest == 10);
+    EXPECT(out[5] == 30 && out[11] == 10 && counts[0] == 2 && losses[0] == 100 && all(work, 0, 8 * PIXELS * sizeof *work));
+    free(bytes);
+    free(out);
+    free(work);
+    free(counts);
+    free(losses);
+}
+
 /* Every operation on a plate of chance, large enough for each column to be a block of memory of its own. */
 static void check_noise(uint32_t connectivity)
 {
@@ -175,6 +194,7 @@ int main(void)
     check_maxima_and_nodes();
     check_file();
     check_record();
+    check_joint();
     check_noise(4);
     check_noise(8);
     return failures != 0;
