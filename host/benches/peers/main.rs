@@ -15,7 +15,7 @@ mod twin;
 mod twin_records;
 
 use std::fs;
-use std::path::PathBuf;
+use std::path::{Path, PathBuf};
 
 use livukoe::pictures::{self, picture};
 use livukoe::Connectivity;
@@ -72,9 +72,13 @@ fn main() {
             }
             eprintln!("{kind}, {side} x {side}: done");
         }
+        write(&arguments.out, &timings, &peer_timings); // each size, so that a run that is cut short leaves something
     }
-    let text = report::text(&timings, &peer_timings);
-    let picture = plot::svg(&timings, &peer_timings);
-    fs::write(arguments.out.join("BENCHMARKS.md"), text).expect("the report is written");
-    fs::write(arguments.out.join("benchmarks.svg"), picture).expect("the plot is written");
+}
+
+fn write(folder: &Path, timings: &[Timing], peer_timings: &[PeerTiming]) {
+    let text = report::text(timings, peer_timings);
+    fs::write(folder.join("BENCHMARKS.md"), text).expect("the report is written");
+    let picture = plot::svg(timings, peer_timings);
+    fs::write(folder.join("benchmarks.svg"), picture).expect("the plot is written");
 }
