@@ -132,11 +132,6 @@ static void check_record(void)
     EXPECT(sizes.refusal == 0 && sizes.nodes == 4 && sizes.darkest == 10 && sizes.connectivity == 4);
     EXPECT(counts[0] == 2 && losses[0] == 100 && counts[1] == 1 && losses[1] == 40);
     EXPECT(all(counts + 2, 0, 9 * sizeof *counts) && all(losses + 2, 0, 9 * sizeof *losses));
-    struct livukoe_joint joint = livukoe_write_cut_list(
-        SMALL, PIXELS, WIDTH, HEIGHT, 4, 2, bytes, 27, out, PIXELS, counts, 11, losses, 11, work, WORK);
-    EXPECT(joint.refusal == 0 && joint.length == 27 && joint.nodes == 4 && joint.darkest == 10);
-    EXPECT(memcmp(bytes, record, 27) == 0 && memcmp(out, cut, PIXELS) == 0);
-    EXPECT(counts[0] == 2 && losses[0] == 100 && all(work, 0, WORK * sizeof *work));
     free(bytes);
     free(out);
     free(work);
