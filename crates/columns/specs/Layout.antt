@@ -14,7 +14,7 @@ use Rattle.columns.specs.Columns.{col, Room, Frame}
 
 -- ---- the columns
 
--- by pixel: its grey; its node
+-- by pixel: its grey; its node (while flooding, n plus its grey where it has none yet)
 abbrev pub GREY : ℕ
 GREY = 0
 

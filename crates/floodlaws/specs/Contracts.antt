@@ -11,7 +11,7 @@ use Rattle.meaning.specs.Plate.{touch, connectivityFits, greatestGrey}
 use Rattle.columns.specs.Columns.{col, Room, Frame, Put, Stored}
 use Rattle.columns.specs.Layout.{GREY, OWN, STACK, FLOODAREA, FLOODPARENT, FloodedColumns}
 use Rattle.grid.specs.Directions.{Beside}
-use Rattle.floodlaws.specs.Machine.{Mach, Chain, Linked, work}
+use Rattle.floodlaws.specs.Machine.{Mach, Chain, Fresh, Linked, work}
 
 -- the number of levels
 abbrev pub LEVELS : ℕ
@@ -64,6 +64,7 @@ pub record Machine (k wd ht n : ℕ) (w t : List ℕ) (u c : ℕ) : Type 0 where
   pub sizes : Sizes k wd ht n
   pub room : Room w n
   pub table-room : Room t LEVELS
+  pub fresh : Fresh n (col GREY n w) (col OWN n w)
   pub mach : Mach n (touch k wd) (col GREY n w) LEVELS (col OWN n w) (stack wd n w) (col FLOODAREA n w) (col FLOODPARENT n w)
       (level COUNT t) (level NAME t) (level TOP t) (level START t) (level NEXT t) u (level NODES t 0) c
 
@@ -209,10 +210,10 @@ pub record Turned (k wd ht n : ℕ) (w w′ t t′ : List ℕ) (r : ℕ) : Type 
 
 -- ---- before the first step
 
--- the greys of the first p pixels are counted, and these are not seen
+-- the greys of the first p pixels are counted, and these are not seen: each holds its grey behind n
 pub record Counted (n : ℕ) (w w′ t t′ : List ℕ) (p : ℕ) : Type 0 where
   pub kept : Kept n w w′ t t′
-  pub unseen : (q : ℕ) → q < p → col OWN n w′ q ≡ n
+  pub unseen : (q : ℕ) → q < p → col OWN n w′ q ≡ n + col GREY n w q
   pub counts : (m : ℕ) → m < LEVELS → level START t′ m ≡ area p (λ (q : ℕ). eqb (col GREY n w q) m)
   pub off : (d : ℕ) → d < 8 → (d ≡ START → ⊥) → level d t′ ≡ level d t
 

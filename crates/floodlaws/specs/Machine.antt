@@ -23,6 +23,10 @@ use Rattle.columns.specs.Layout.{Alike, Up}
 abbrev pub Seen : ℕ → (ℕ → ℕ) → ℕ → Type 0
 Seen n own p = (p < n) × (own p < n)
 
+-- a pixel that is not seen holds its grey, behind n, where its node will stand
+abbrev pub Fresh : ℕ → (ℕ → ℕ) → (ℕ → ℕ) → Type 0
+Fresh n f own = (p : ℕ) → p < n → n ≤ own p → own p ≡ n + f p
+
 -- is q seen, and labelled l
 abbrev pub marked : ℕ → (ℕ → ℕ) → (ℕ → ℕ) → ℕ → ℕ → Bool
 marked n own lab l q = ltb (own q) n && eqb (lab q) l

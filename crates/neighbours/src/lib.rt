@@ -5,8 +5,6 @@ ghost use Rattle.floodlaws.specs.Contracts.{Looking, Toward, Looked, LookedIn, 
 use columns::get;
 
 // The columns of the work space (specs/Layout.antt of the crate `columns`).
-const GREY: usize = 0;
-
 const OWN: usize = 1;
 
 // The pixels, the width, the height and the connectivity of a plate.
@@ -23,7 +21,7 @@ pub struct Pixel {
     pub y: usize,
 }
 
-// Looks at the pixel `to`, which touches the current pixel, `at`: a new pixel is pushed. The answer is h, or the level to which the flood has
+// Looks at the pixel `to`, which touches the current pixel, `at`: a new pixel holds its grey behind n, and is pushed. The answer is h, or the level to which the flood has
 // risen; then `at` is back on its stack.
 fn look(w: &mut [u32], t: &mut [u32], g: Shape, at: Pixel, to: Pixel, h: usize) -> usize
     requires { ⌜ Looking (g .connectivity) (g .width) (g .height) (g .n) (now w) (now t) h (at .x) (at .y) ⌝ }
@@ -36,7 +34,7 @@ fn look(w: &mut [u32], t: &mut [u32], g: Shape, at: Pixel, to: Pixel, h: usize) 
     if o < n {
         return h;
     }
-    let m = get(w, n, GREY, q);
+    let m = o - n;
     levels::push(w, t, n, q, m, to.y * 65536 + to.x, h + 1);
     if m <= h {
         return h;

@@ -137,10 +137,12 @@ impl<const CHECKED: bool> Flood<'_, CHECKED> {
     /// Looks at the pixel `to` beside `at`. The answer is h, or the level to which the flood has risen.
     fn look(&mut self, at: Pixel, to: Pixel, h: usize) -> usize {
         let q = to.y * self.width + to.x;
-        if (self.columns.own[q] as usize) < self.columns.own.0.len() {
+        let own = self.columns.own[q] as usize;
+        let pixels = self.columns.own.0.len();
+        if own < pixels {
             return h;
         }
-        let m = self.columns.grey[q] as usize;
+        let m = own - pixels;
         self.columns.own[q] = self.name(m, h + 1);
         self.place(m, to);
         if m <= h {
@@ -295,11 +297,12 @@ impl<const CHECKED: bool> Flood<'_, CHECKED> {
         }
     }
 
-    /// Counts the pixels of each level, marks each pixel as not seen, and gives each level its part of the stack.
+    /// Counts the pixels of each level, marks each pixel as not seen (it holds its grey behind the number of pixels), and
+    /// gives each level its part of the stack.
     fn prepare(&mut self) {
-        let unseen = self.columns.own.0.len() as u32;
-        self.columns.own.0.fill(unseen);
-        for &grey in self.columns.grey.0.iter() {
+        let pixels = self.columns.own.0.len() as u32;
+        for (own, &grey) in self.columns.own.0.iter_mut().zip(self.columns.grey.0.iter()) {
+            *own = pixels + grey;
             self.levels.start[grey as usize] += 1;
         }
         offsets(&mut self.levels.start.0);
