@@ -38,14 +38,14 @@ FLOODPARENT = 3
 abbrev pub FLOODAREA : ℕ
 FLOODAREA = 4
 
--- by node in the order of flooding: its anchor, its number
+-- by node in the order of flooding: its anchor; its number, in the place of its area, which is not read again
 abbrev pub FIRST : ℕ
-FIRST = 5
+FIRST = 6
 
 abbrev pub NUMBER : ℕ
-NUMBER = 6
+NUMBER = 4
 
--- by node: its parent, its area; a free column for an operation
+-- by node: its parent (until the parents are numbered, by its number in the order of flooding), its area; a free column for an operation
 abbrev pub PARENT : ℕ
 PARENT = 5
 
