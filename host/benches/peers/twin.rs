@@ -47,11 +47,11 @@ pub struct Columns<'a, const CHECKED: bool> {
     pub stack: Column<'a, CHECKED>,
     /// The parent by node in the order of flooding; then each node's level.
     pub flood_parent: Column<'a, CHECKED>,
-    /// The area by node in the order of flooding; then each node's value.
+    /// The area by node in the order of flooding; then the number by such a node; then each node's value.
     pub flood_area: Column<'a, CHECKED>,
-    /// The first pixel by node in the order of flooding; then each node's parent.
+    pub parent: Column<'a, CHECKED>,
+    /// The first pixel by node in the order of flooding.
     pub first: Column<'a, CHECKED>,
-    pub number: Column<'a, CHECKED>,
     pub area: Column<'a, CHECKED>,
 }
 
@@ -65,8 +65,8 @@ impl<'a, const CHECKED: bool> Columns<'a, CHECKED> {
             stack: next(),
             flood_parent: next(),
             flood_area: next(),
+            parent: next(),
             first: next(),
-            number: next(),
             area: next(),
         }
     }
@@ -349,25 +349,25 @@ fn number<const CHECKED: bool>(columns: &mut Columns<CHECKED>) -> usize {
     for p in 0..pixels {
         let node = columns.own[p] as usize;
         if columns.first[node] as usize == p {
-            let place = &mut places[columns.grey[p] as usize];
-            columns.stack[*place as usize] = p as u32;
-            columns.number[node] = *place;
-            *place += 1;
+            let place = places[columns.grey[p] as usize];
+            places[columns.grey[p] as usize] += 1;
+            columns.stack[place as usize] = p as u32;
+            columns.parent[place as usize] = columns.flood_parent[node];
+            columns.area[place as usize] = columns.flood_area[node];
+            columns.flood_area[node] = place;
         }
     }
     describe(columns, count);
     count
 }
 
-/// Each node's parent, area and level, and each pixel's own node, by number.
+/// Each node's parent and level, and each pixel's own node, by number.
 fn describe<const CHECKED: bool>(columns: &mut Columns<CHECKED>, count: usize) {
     for v in 0..count {
-        let node = columns.own[columns.stack[v] as usize] as usize;
-        columns.first[v] = columns.number[columns.flood_parent[node] as usize];
-        columns.area[v] = columns.flood_area[node];
+        columns.parent[v] = columns.flood_area[columns.parent[v] as usize];
     }
     for own in columns.own.0.iter_mut() {
-        *own = columns.number[*own as usize];
+        *own = columns.flood_area[*own as usize];
     }
     for v in 0..count {
         columns.flood_parent[v] = columns.grey[columns.stack[v] as usize];
@@ -440,7 +440,7 @@ fn clean<const CHECKED: bool>(
         columns.flood_area[v] = if limit <= columns.area[v] {
             columns.flood_parent[v]
         } else {
-            columns.flood_area[columns.first[v] as usize]
+            columns.flood_area[columns.parent[v] as usize]
         };
     }
     write_values::<CHECKED>(work, pixels, negated, out);
@@ -461,7 +461,7 @@ pub fn regional_maxima<const CHECKED: bool>(image: Image, out: &mut [u8], work: 
     let mut columns = Columns::<CHECKED>::of(work, pixels);
     columns.flood_area.0[..count].fill(1);
     for v in 1..count {
-        columns.flood_area[columns.first[v] as usize] = 0;
+        columns.flood_area[columns.parent[v] as usize] = 0;
     }
     write_values::<CHECKED>(work, pixels, false, out);
     clear(work, pixels);
@@ -472,7 +472,7 @@ pub fn node_list<const CHECKED: bool>(image: Image, out: NodeColumns, work: &mut
     let count = plate_tree::<CHECKED>(image, false, work);
     let columns = Columns::<CHECKED>::of(work, pixels);
     out.levels[..count].copy_from_slice(&columns.flood_parent.0[..count]);
-    out.parents[..count].copy_from_slice(&columns.first.0[..count]);
+    out.parents[..count].copy_from_slice(&columns.parent.0[..count]);
     out.areas[..count].copy_from_slice(&columns.area.0[..count]);
     out.anchors[..count].copy_from_slice(&columns.stack.0[..count]);
     clear(work, pixels);
@@ -485,7 +485,7 @@ pub fn node_entries<const CHECKED: bool>(image: Image, list: &mut [Node], work: 
     for (i, node) in list[..count].iter_mut().enumerate() {
         *node = Node {
             level: columns.flood_parent[i],
-            parent: columns.first[i],
+            parent: columns.parent[i],
             area: columns.area[i],
             anchor: columns.stack[i],
         };

@@ -28,7 +28,7 @@ fn all_fields<const CHECKED: bool>(
     mut each: impl FnMut(u32) -> bool,
 ) -> bool {
     let columns = Columns::<CHECKED>::of(work, head.pixels());
-    let (level, parent, area) = (&columns.flood_parent, &columns.first, &columns.area);
+    let (level, parent, area) = (&columns.flood_parent, &columns.parent, &columns.area);
     let Head {
         width,
         height,
@@ -172,9 +172,9 @@ pub fn cut_record<const CHECKED: bool>(bytes: &[u8], limit: u32, out: &mut [u8],
     for i in 0..count {
         let mut node = i;
         while columns.area[node] < limit {
-            node = columns.first[node] as usize;
+            node = columns.parent[node] as usize;
         }
-        columns.first[i] = node as u32;
+        columns.parent[i] = node as u32;
         columns.flood_area[i] = columns.flood_parent[node];
     }
     write_values::<CHECKED>(work, head.pixels(), false, out);
@@ -196,7 +196,7 @@ pub fn size_list<const CHECKED: bool>(
     }
     losses[..places].fill(0);
     for i in 1..count {
-        let below = columns.flood_parent[columns.first[i] as usize];
+        let below = columns.flood_parent[columns.parent[i] as usize];
         let loss = u64::from(columns.area[i]) * u64::from(columns.flood_parent[i] - below);
         losses[columns.area[i] as usize - 1] += loss;
     }
