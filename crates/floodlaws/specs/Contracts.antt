@@ -179,10 +179,10 @@ LookedIn k wd ht n w w′ t t′ h x y d r = Looked k wd ht n w w′ t t′ h x 
 
 -- the neighbours of p in the row above, and in the row below
 abbrev pub UpperRow : ℕ → ℕ → ℕ → Type 0
-UpperRow wd p q = (Beside wd 4 p q ⊎ Beside wd 3 p q) ⊎ Beside wd 6 p q
+UpperRow wd p q = (Beside wd 3 p q ⊎ Beside wd 4 p q) ⊎ Beside wd 6 p q
 
 abbrev pub LowerRow : ℕ → ℕ → ℕ → Type 0
-LowerRow wd p q = (Beside wd 7 p q ⊎ Beside wd 2 p q) ⊎ Beside wd 5 p q
+LowerRow wd p q = (Beside wd 2 p q ⊎ Beside wd 7 p q) ⊎ Beside wd 5 p q
 
 -- the current pixel is done, or the flood has risen to r
 pub record Visited (k wd ht n : ℕ) (w w′ t t′ : List ℕ) (r : ℕ) : Type 0 where

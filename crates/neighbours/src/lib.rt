@@ -237,11 +237,11 @@ fn upper_row(w: &mut [u32], t: &mut [u32], g: Shape, at: Pixel, h: usize) -> usi
     requires { ⌜ 6 < g .connectivity ⌝ }
     ensures { λ r. ⌜ Looked (g .connectivity) (g .width) (g .height) (g .n) (now (w .entry)) (now (w .exit)) (now (t .entry)) (now (t .exit)) h (at .x) (at .y) (UpperRow (g .width) (at .y * g .width + at .x)) r ⌝ }
 {
-    let a = upper_left(w, t, g, at, h);
+    let a = upper(w, t, g, at, h);
     if a != h {
         return a;
     }
-    let b = upper(w, t, g, at, h);
+    let b = upper_left(w, t, g, at, h);
     if b != h {
         return b;
     }
@@ -254,11 +254,11 @@ fn lower_row(w: &mut [u32], t: &mut [u32], g: Shape, at: Pixel, h: usize) -> usi
     requires { ⌜ 7 < g .connectivity ⌝ }
     ensures { λ r. ⌜ Looked (g .connectivity) (g .width) (g .height) (g .n) (now (w .entry)) (now (w .exit)) (now (t .entry)) (now (t .exit)) h (at .x) (at .y) (LowerRow (g .width) (at .y * g .width + at .x)) r ⌝ }
 {
-    let a = lower_left(w, t, g, at, h);
+    let a = lower(w, t, g, at, h);
     if a != h {
         return a;
     }
-    let b = lower(w, t, g, at, h);
+    let b = lower_left(w, t, g, at, h);
     if b != h {
         return b;
     }

@@ -231,21 +231,18 @@ impl<const CHECKED: bool> Flood<'_, CHECKED> {
 
     /// Looks at the neighbours of `at` until the flood rises.
     fn visit<const EIGHT: bool>(&mut self, at: Pixel, h: usize) -> usize {
-        let mut level = h;
-        if EIGHT {
+        let mut level = self.upper(at, h);
+        if EIGHT && level == h {
             level = self.corner(at, false, false, h);
-        }
-        if level == h {
-            level = self.upper(at, h);
         }
         if EIGHT && level == h {
             level = self.corner(at, true, false, h);
         }
-        if EIGHT && level == h {
-            level = self.corner(at, false, true, h);
-        }
         if level == h {
             level = self.lower(at, h);
+        }
+        if EIGHT && level == h {
+            level = self.corner(at, false, true, h);
         }
         if EIGHT && level == h {
             level = self.corner(at, true, true, h);
