@@ -25,6 +25,7 @@ mod plate;
 mod record;
 mod refusal;
 mod sizes;
+mod work;
 
 pub use connectivity::Connectivity;
 pub use lent::{ink_percentage, Node};
@@ -32,11 +33,7 @@ pub use plate::Plate;
 pub use record::Record;
 pub use refusal::Refusal;
 pub use sizes::{Size, SizeList};
+pub use work::work_space;
 
 /// The greatest number of pixels of a plate.
 pub const MAX_PIXELS: usize = 16_777_216;
-
-/// The work space of an operation on so many pixels: eight numbers for each.
-fn work_space(pixels: usize) -> Vec<u32> {
-    vec![0; 8 * pixels]
-}

@@ -80,10 +80,11 @@ fn corridor(x: usize, y: usize, width: usize) -> u8 {
     }
 }
 
-const SEED: u64 = 88_172_645_463_325_252;
+/// Where a row of numbers by chance begins.
+pub const SEED: u64 = 88_172_645_463_325_252;
 
 /// The next of a row of numbers that look like chance (xorshift).
-fn next(state: &mut u64) -> u32 {
+pub fn next(state: &mut u64) -> u32 {
     *state ^= *state << 13;
     *state ^= *state >> 7;
     *state ^= *state << 17;

@@ -7,6 +7,7 @@
 
 mod clock;
 mod measure;
+mod memory;
 mod operations;
 mod peers;
 mod plot;
@@ -21,6 +22,7 @@ use livukoe::pictures::{self, picture};
 use livukoe::Connectivity;
 
 use measure::Timing;
+use memory::Memory;
 use peers::{PeerTiming, Peers};
 
 /// The sides of the square pictures, from 64 K to 16 M pixels.
@@ -60,6 +62,7 @@ fn main() {
     let peers = Peers::find();
     let mut timings: Vec<Timing> = Vec::new();
     let mut peer_timings: Vec<PeerTiming> = Vec::new();
+    let mut memory: Vec<Memory> = Vec::new();
     let sides = SIDES.into_iter();
     for side in sides.filter(|side| (side * side) as usize <= arguments.pixels) {
         for kind in pictures::KINDS {
@@ -72,12 +75,13 @@ fn main() {
             }
             eprintln!("{kind}, {side} x {side}: done");
         }
-        write(&arguments.out, &timings, &peer_timings); // each size, so that a run that is cut short leaves something
+        memory.push(memory::measure((side * side) as usize));
+        write(&arguments.out, &timings, &peer_timings, &memory); // each size, so that a run that is cut short leaves something
     }
 }
 
-fn write(folder: &Path, timings: &[Timing], peer_timings: &[PeerTiming]) {
-    let text = report::text(timings, peer_timings);
+fn write(folder: &Path, timings: &[Timing], peer_timings: &[PeerTiming], memory: &[Memory]) {
+    let text = report::text(timings, peer_timings, memory);
     fs::write(folder.join("BENCHMARKS.md"), text).expect("the report is written");
     let picture = plot::svg(timings, peer_timings);
     fs::write(folder.join("benchmarks.svg"), picture).expect("the plot is written");

@@ -1,7 +1,7 @@
 //! Each operation, proved and in plain Rust, over buffers that are allocated once.
 
 use livukoe::lent::{self as proved, Image, Node, NodeColumns};
-use livukoe::{Connectivity, Plate};
+use livukoe::{work_space, Connectivity, Plate};
 
 use crate::{twin, twin_records};
 
@@ -49,6 +49,8 @@ impl<'a> Bench<'a> {
     pub fn new(plate: &'a Plate, connectivity: Connectivity) -> Bench<'a> {
         let pixels = plate.greys().len();
         let record = plate.record(connectivity).expect("a record");
+        let mut work = work_space(pixels);
+        work.fill(1);
         Bench {
             plate,
             connectivity,
@@ -58,7 +60,7 @@ impl<'a> Bench<'a> {
                 columns: std::array::from_fn(|_| vec![1; pixels]),
                 list: vec![Node::default(); pixels],
                 losses: vec![1; pixels],
-                work: vec![1; 8 * pixels],
+                work,
             },
             record: record.bytes().to_vec(),
             file: [plate.pgm_header().as_bytes(), plate.greys()].concat(),

@@ -8,24 +8,28 @@ use livukoe::pictures::KINDS;
 use livukoe::Connectivity;
 
 use crate::measure::Timing;
+use crate::memory::Memory;
 use crate::operations::{LIMIT, OPERATIONS};
 use crate::peers::{PeerTiming, ITK_OPENING, SCIKIT_OPENING, SCIKIT_TREE};
 
 /// What is ahead of the tables.
 const FRONT: &str = "# Benchmarks
 
-Written by `make bench`. Each time is the best of 9 runs (of 5 at 4 M pixels, of 2 at 16 M), in processor time of one thread. *Plain Rust* is the
+Written by `make bench`. Each time is the best of 9 runs (of 5 at 4 M pixels, of 3 at 16 M), in processor time of one thread. *Plain Rust* is the
 same algorithm, passes and work space in Rust, whose indices are checked; *unchecked* is the same source without those
 checks. The three take turns, and their answers are compared. A ratio below 1 says that the proved code is faster.
+*Growth* is the time a pixel at the largest size over that at the smallest. The work space is the wrapper's, which asks
+for large pages.
 
 ![time against size](benchmarks.svg)
 ";
 
 /// The report.
-pub fn text(timings: &[Timing], peers: &[PeerTiming]) -> String {
+pub fn text(timings: &[Timing], peers: &[PeerTiming], memory: &[Memory]) -> String {
     let mut text = FRONT.to_owned();
     let _ = write!(text, "\n## Machine\n\n{}", machine()); // a string takes every write
     let _ = write!(text, "\n## Against peers\n\n{}", peer_table(timings, peers));
+    let _ = write!(text, "\n## Memory alone\n\n{}", memory_table(memory));
     for connectivity in [Connectivity::Four, Connectivity::Eight] {
         for operation in OPERATIONS {
             let of_operation = |timing: &&Timing| {
@@ -70,7 +74,48 @@ fn machine() -> String {
     )
 }
 
-/// Nanoseconds a pixel by size, and the ratios to plain Rust over the sizes.
+/// What memory alone takes a pixel, by size.
+fn memory_table(memory: &[Memory]) -> String {
+    let mut text = String::from(
+        "Nanoseconds a pixel on the same work space, without any operation on a plate: what grows here with the size \
+         grows in every operation.\n\n| |",
+    );
+    for row in memory {
+        text += &format!(" {} |", size_name(row.pixels));
+    }
+    text += &format!(" growth |\n|---|{}\n", "---|".repeat(memory.len() + 1));
+    type Seconds = fn(&Memory) -> f64;
+    let rows: [(&str, Seconds); 3] = [
+        ("eight columns set to zero", |row| row.clear),
+        ("a read by chance for each pixel", |row| row.reads),
+        (
+            "the same, each read at the place that the last one gave",
+            |row| row.chain,
+        ),
+    ];
+    for (name, seconds) in rows {
+        let times = memory
+            .iter()
+            .map(|row| seconds(row) * 1e9 / row.pixels as f64);
+        text += &row(name, &times.collect::<Vec<f64>>());
+        text += "\n";
+    }
+    text
+}
+
+/// A row of a table: nanoseconds a pixel by size, and the last over the first.
+fn row(name: &str, times: &[f64]) -> String {
+    let mut text = format!("| {name} |");
+    for nanoseconds in times {
+        let digits = if *nanoseconds < 1.0 { 2 } else { 1 };
+        text += &format!(" {nanoseconds:.digits$} |");
+    }
+    let growth = times.last().unwrap_or(&1.0) / times.first().unwrap_or(&1.0);
+    text += &format!(" {growth:.2} |");
+    text
+}
+
+/// Nanoseconds a pixel by size, their growth, and the ratios to plain Rust over the sizes.
 fn table(timings: &[&Timing]) -> String {
     let mut sizes: Vec<usize> = timings.iter().map(|timing| timing.pixels).collect();
     sizes.sort_unstable();
@@ -79,21 +124,19 @@ fn table(timings: &[&Timing]) -> String {
     for size in &sizes {
         text += &format!(" {} |", size_name(*size));
     }
-    text += " / plain Rust | / unchecked |\n|---|";
-    text += &"---|".repeat(sizes.len() + 2);
+    text += " growth | / plain Rust | / unchecked |\n|---|";
+    text += &"---|".repeat(sizes.len() + 3);
     text += "\n";
     for kind in KINDS {
-        let row: Vec<&&Timing> = timings
+        let of_kind: Vec<&&Timing> = timings
             .iter()
             .filter(|timing| timing.kind == kind)
             .collect();
-        text += &format!("| {kind} |");
-        for timing in &row {
-            let nanoseconds = timing.seconds[0] * 1e9 / timing.pixels as f64;
-            let digits = if nanoseconds < 1.0 { 2 } else { 1 };
-            text += &format!(" {nanoseconds:.digits$} |");
-        }
-        text += &format!(" {} | {} |\n", ratios(&row, 1), ratios(&row, 2));
+        let times = of_kind
+            .iter()
+            .map(|timing| timing.seconds[0] * 1e9 / timing.pixels as f64);
+        text += &row(kind, &times.collect::<Vec<f64>>());
+        text += &format!(" {} | {} |\n", ratios(&of_kind, 1), ratios(&of_kind, 2));
     }
     text
 }

@@ -298,7 +298,13 @@ impl<const CHECKED: bool> Flood<'_, CHECKED> {
     /// gives each level its part of the stack.
     fn prepare(&mut self) {
         let pixels = self.columns.own.0.len() as u32;
-        for (own, &grey) in self.columns.own.0.iter_mut().zip(self.columns.grey.0.iter()) {
+        for (own, &grey) in self
+            .columns
+            .own
+            .0
+            .iter_mut()
+            .zip(self.columns.grey.0.iter())
+        {
             *own = pixels + grey;
             self.levels.start[grey as usize] += 1;
         }
