@@ -19,6 +19,7 @@
 //! ```
 
 mod connectivity;
+mod joint;
 pub mod lent;
 pub mod pictures;
 mod plate;
@@ -28,6 +29,7 @@ mod sizes;
 mod work;
 
 pub use connectivity::Connectivity;
+pub use joint::Joint;
 pub use lent::{ink_percentage, Node};
 pub use plate::Plate;
 pub use record::Record;

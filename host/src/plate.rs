@@ -1,5 +1,6 @@
 //! Plates, and the operations on them.
 
+use crate::joint::Joint;
 use crate::lent::{self, Image, Node};
 use crate::record::Record;
 use crate::refusal::Refusal;
@@ -80,6 +81,15 @@ impl Plate {
     /// The record of this plate with a connectivity.
     pub fn record(&self, connectivity: Connectivity) -> Result<Record, Refusal> {
         Record::of(self.image(connectivity))
+    }
+
+    /// The record of this plate, its cut at a limit and its size list, by one call.
+    pub fn record_cut_sizes(
+        &self,
+        connectivity: Connectivity,
+        limit: u32,
+    ) -> Result<Joint, Refusal> {
+        Joint::of(self.image(connectivity), limit)
     }
 
     /// The plate of this size that an operation writes.

@@ -29,12 +29,22 @@ impl Record {
 
     pub(crate) fn of(image: Image) -> Result<Record, Refusal> {
         let pixels = image.greys.len();
-        let mut bytes = vec![0; BYTES_AHEAD + BYTES_A_PIXEL * pixels];
+        let mut bytes = vec![0; Record::most_bytes(pixels)];
         let answer = lent::write_record(image, &mut bytes, &mut work_space(pixels));
         Refusal::check(answer.refusal)?;
-        bytes.truncate(answer.length);
+        Ok(Record::written(bytes, answer.length))
+    }
+
+    /// No plate of so many pixels has a longer record.
+    pub(crate) fn most_bytes(pixels: usize) -> usize {
+        BYTES_AHEAD + BYTES_A_PIXEL * pixels
+    }
+
+    /// The record that was written at the front of some bytes.
+    pub(crate) fn written(mut bytes: Vec<u8>, length: usize) -> Record {
+        bytes.truncate(length);
         bytes.shrink_to_fit();
-        Ok(Record { bytes })
+        Record { bytes }
     }
 
     /// The plate that the record describes.

@@ -28,16 +28,24 @@ pub struct Size {
 
 impl SizeList {
     pub(crate) fn of(record: &[u8], pixels: usize) -> Result<SizeList, Refusal> {
-        let places = pixels.saturating_sub(1);
-        let mut counts = vec![0; places];
-        let mut losses = vec![0; places];
+        let (mut counts, mut losses) = SizeList::tables(pixels);
         let head = lent::size_list(record, &mut counts, &mut losses, &mut work_space(pixels));
         Refusal::check(head.refusal)?;
-        Ok(SizeList {
+        Ok(SizeList::new(head, counts, losses))
+    }
+
+    /// The tables for a plate of so many pixels: a place for each area but that of the whole.
+    pub(crate) fn tables(pixels: usize) -> (Vec<u32>, Vec<u64>) {
+        let places = pixels.saturating_sub(1);
+        (vec![0; places], vec![0; places])
+    }
+
+    pub(crate) fn new(head: SizeHead, counts: Vec<u32>, losses: Vec<u64>) -> SizeList {
+        SizeList {
             head,
             counts,
             losses,
-        })
+        }
     }
 
     /// The number of nodes of the plate.

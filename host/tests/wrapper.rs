@@ -3,7 +3,7 @@
 mod common;
 
 use common::Chance;
-use livukoe::{ink_percentage, Connectivity, Plate, Record, Refusal};
+use livukoe::{ink_percentage, Connectivity, Joint, Plate, Record, Refusal};
 
 fn small() -> Plate {
     Plate::new(4, 3, vec![10, 10, 10, 10, 10, 50, 30, 10, 10, 10, 10, 90])
@@ -61,6 +61,26 @@ fn records_that_are_none() {
         Record::from_bytes(vec![]).plate(),
         Err(Refusal::FieldUnended)
     );
+}
+
+/// One call gives what the operations give one after another, refusals included.
+#[test]
+fn record_cut_and_sizes_at_once() {
+    let mut chance = Chance::new(15);
+    for _ in 0..2_000 {
+        let ticket = chance.ticket(9);
+        let limit = chance.limit(ticket.pixels());
+        let Some(connectivity) = Connectivity::from_number(ticket.connectivity) else {
+            continue;
+        };
+        let plate = Plate::new(ticket.width, ticket.height, ticket.greys.clone());
+        let apart = || {
+            let record = plate.record(connectivity)?;
+            let (cut, sizes) = (record.cut(limit)?, record.sizes()?);
+            Ok(Joint { record, cut, sizes })
+        };
+        assert_eq!(plate.record_cut_sizes(connectivity, limit), apart());
+    }
 }
 
 #[test]

@@ -5,8 +5,7 @@ mod damage;
 mod files;
 mod plates;
 
-use std::fmt::Write;
-
+use crate::case::Case;
 use crate::grid::Grid;
 use crate::nodes::nodes_of;
 use crate::record::record_of;
@@ -18,57 +17,6 @@ pub fn cases_text() -> String {
     damage::cases(&mut cases);
     files::cases(&mut cases);
     cases.iter().map(Case::line).collect()
-}
-
-/// A case: see `vectors.rs` for what each operation makes of the numbers.
-#[derive(Clone)]
-struct Case {
-    name: &'static str,
-    width: u32,
-    height: u32,
-    connectivity: u32,
-    limit: u32,
-    places: usize,
-    room: usize,
-    bytes: Vec<u8>,
-}
-
-impl Case {
-    /// The line that spells the case.
-    fn line(&self) -> String {
-        let mut line = format!(
-            "{} {} {} {} {} {} {}",
-            self.name,
-            self.width,
-            self.height,
-            self.connectivity,
-            self.limit,
-            self.places,
-            self.room
-        );
-        for run in self.bytes.chunk_by(|a, b| a == b) {
-            match run.len() {
-                1 => write!(line, " {}", run[0]),
-                count => write!(line, " {}*{count}", run[0]),
-            }
-            .expect("a string takes what is written");
-        }
-        line + "\n"
-    }
-
-    /// A case on bytes alone: a record or a file.
-    fn on_bytes(name: &'static str, places: usize, room: usize, bytes: &[u8]) -> Case {
-        Case {
-            name,
-            width: 0,
-            height: 0,
-            connectivity: 0,
-            limit: 0,
-            places,
-            room,
-            bytes: bytes.to_vec(),
-        }
-    }
 }
 
 /// A plate.
@@ -101,7 +49,7 @@ impl Plate {
     }
 
     /// A case on the plate with room for everything, and a little excess.
-    fn case(&self, name: &'static str, connectivity: u32, limit: u32) -> Case {
+    fn case(&self, name: &'static str, connectivity: u32, limit: u32) -> Case<'static> {
         Case {
             name,
             width: self.width,

@@ -6,6 +6,7 @@
 
 #![forbid(unsafe_code)]
 
+pub mod case;
 pub mod cases;
 pub mod grid;
 pub mod ink;

@@ -1,57 +1,16 @@
 //! Cases run one by one, a line for each: what the program `vectors` prints.
 //!
-//! A case is a line: the operation, six numbers (width, height, connectivity,
-//! limit, places of the output, places of the work space) and bytes, in
-//! decimal and parted by one space; `v*n` stands for n bytes v. An output
-//! holds 170 before, a table or a column 9, the work space 7.
+//! `case.rs` says how a case is spelled. An output holds 170 before, a table
+//! or a column 9, the work space 7.
 
 use std::fmt::Display;
 
+use crate::case::{listed, Case};
 use crate::*;
-
-/// A line taken apart.
-struct Case<'a> {
-    name: &'a str,
-    width: u32,
-    height: u32,
-    connectivity: u32,
-    limit: u32,
-    places: usize,
-    room: usize,
-    bytes: Vec<u8>,
-}
 
 /// The text for all cases of the input.
 pub fn vectors_text(input: &str) -> String {
-    input.lines().map(|line| answer(&case_of(line))).collect()
-}
-
-/// Takes a line apart.
-fn case_of(line: &str) -> Case<'_> {
-    let mut words = line.split(' ');
-    let name = words.next().unwrap_or("");
-    let mut number = || words.next().map_or(0, value);
-    Case {
-        name,
-        width: number(),
-        height: number(),
-        connectivity: number(),
-        limit: number(),
-        places: number() as usize,
-        room: number() as usize,
-        bytes: words.flat_map(bytes_of).collect(),
-    }
-}
-
-/// The number that a word spells.
-fn value(word: &str) -> u32 {
-    word.parse().expect("a number below 4,294,967,296")
-}
-
-/// The bytes that `v` or `v*n` stands for.
-fn bytes_of(word: &str) -> Vec<u8> {
-    let (byte, count) = word.split_once('*').unwrap_or((word, "1"));
-    vec![value(byte) as u8; value(count) as usize]
+    input.lines().map(|line| answer(&Case::of(line))).collect()
 }
 
 /// The line of a case.
@@ -69,22 +28,6 @@ fn answer(case: &Case) -> String {
         other => panic!("no operation is called {other}"),
     };
     format!("{}{said}\n", case.name)
-}
-
-/// Numbers with a space in front of each; equal ones in a row as `v*n`.
-fn listed<T: Display + PartialEq>(numbers: impl IntoIterator<Item = T>) -> String {
-    let mut runs: Vec<(T, usize)> = Vec::new();
-    for number in numbers {
-        match runs.last_mut() {
-            Some((value, count)) if *value == number => *count += 1,
-            _ => runs.push((number, 1)),
-        }
-    }
-    let spelled = runs.iter().map(|(value, count)| match count {
-        1 => format!(" {value}"),
-        _ => format!(" {value}*{count}"),
-    });
-    spelled.collect()
 }
 
 /// A bar and a buffer.
