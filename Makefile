@@ -14,9 +14,9 @@ all: library
 	mkdir -p bin
 	cp host/target/release/livukoe host/target/release/livukoe-demo bin/
 
-# the C functions, proved: target/staticlib/libcapi.a, for include/livukoe.h
+# the C functions, proved: target/staticlib/liblivukoe.a, for include/livukoe.h
 library:
-	rt staticlib capi
+	rt staticlib livukoe
 
 # takes the specks off a relief plate, and leaves docs/before.png and docs/after.png
 demo: all
@@ -43,8 +43,8 @@ check:
 reference:
 	cargo test $(SECOND) --quiet
 	cargo build $(SECOND) --release --quiet
-	reference/target/release/reference cases | cmp - crates/vectors/stdin
-	reference/target/release/reference vectors <crates/vectors/stdin | cmp - crates/vectors/stdout
+	reference/target/release/reference cases | cmp - crates/test_vectors/stdin
+	reference/target/release/reference vectors <crates/test_vectors/stdin | cmp - crates/test_vectors/stdout
 
 # what `make bench` compares with, on Debian; without them it leaves them out
 peers:

@@ -1,7 +1,7 @@
 /* Livukoe: verified cleaning of grey images, for C.
  *
- * Link with target/staticlib/libcapi.a, which `make` builds. Each function calls one proved function and has its
- * contract (crates/capi/src/lib.rt).
+ * Link with target/staticlib/liblivukoe.a, which `make` builds. Each function calls one proved function and has its
+ * contract (crates/livukoe/src/lib.rt).
  *
  * A plate is width x height greys, one byte each, row by row from the top left. Width and height are 1 to 32768, their
  * product, the pixels, at most 16777216. Connectivity is 4 (shared side) or 8 (shared side or corner).

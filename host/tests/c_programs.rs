@@ -22,7 +22,7 @@ fn compiled(source: &str, name: &str) -> PathBuf {
         ])
         .arg(format!("-I{HERE}/../include"))
         .arg(Path::new(HERE).join(source))
-        .arg(Path::new(env!("LIVUKOE_LIB_DIR")).join("libcapi.a"))
+        .arg(Path::new(env!("LIVUKOE_LIB_DIR")).join("liblivukoe.a"))
         .arg("-o")
         .arg(&program)
         .output()

@@ -10,8 +10,8 @@ use Rattle.meaning.specs.Opening.{closed, opened}
 use Rattle.meaning.specs.Answers.{cleanRefusal}
 use Rattle.theorems.proofs.Plates.{closed-length, opened-length}
 use Rattle.theorems.proofs.Theorems.{closed-is-least, opened-is-greatest}
-use Rattle.checks.proofs.Refusals.{Cleanable, clean-none}
-use Rattle.filter.specs.Operations.{Answered}
+use Rattle.plate_refusals.proofs.Refusals.{Cleanable, clean-none}
+use Rattle.plate_filter.specs.Operations.{Answered}
 use Rattle.demands.specs.Demand2.{HoldsClosed, HoldsOpened}
 use Rattle.demands.proofs.Demand3.{over-nth}
 

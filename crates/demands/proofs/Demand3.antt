@@ -1,12 +1,10 @@
 -- The theorem of demand 3.
 use mathlib.Core.Path.{_≡_, refl, sym, ap, _∙_}
-use mathlib.Core.Bool.{Bool, true, false, not, _&&_, _||_}
-use mathlib.Core.List.{List, _++_}
-use Prim.Native.Nat.{ℕ, zero, suc, _+_, _-_, _*_, _≤_, _<_}
+use mathlib.Core.List.{List}
+use Prim.Native.Nat.{ℕ, suc, _-_, _*_, _≤_, _<_}
 use native.Mathlib.Nat.{mul-comm}
 use native.Mathlib.Omega.{arith}
 use borrow.Author.Tests.{le-ltb, le-leb, eq-eqb}
-use lib.Dec.{T, eqb, ltb}
 use lib.ListN.{length, take, drop, List·getD-append}
 use lib.Seq.{take-at}
 use Rattle.meaning.specs.Answers.{over, treeRefusal}
@@ -16,11 +14,11 @@ use Rattle.meaning.specs.Opening.{atLeast, attribute, opened}
 use Rattle.meaning.specs.Plate.{Plate, grey, touch}
 use Rattle.meaning.specs.Record.{recordOf}
 use Rattle.meaning.specs.Sets.{nth, sum, table}
-use Rattle.connectivity.proofs.Lists.{getD-table, length-table}
-use Rattle.connectivity.proofs.Sums.{sum-cong}
+use Rattle.theory_lists.proofs.Lists.{getD-table, length-table}
+use Rattle.theory_lists.proofs.Sums.{sum-cong}
 use Rattle.theorems.proofs.Theorems.{cut-equals-opened, losses-make-total, lost-is-difference, opened-is-lightest, opened-large-maxima, opened-nowhere-lighter}
-use Rattle.parse.specs.Parse.{plate}
-use Rattle.roundtrip.proofs.There.{read-there}
+use Rattle.record_parse.specs.Parse.{plate}
+use Rattle.record_roundtrip.proofs.There.{read-there}
 use Rattle.record.specs.declared.SizeHead.{SizeHead}
 use Rattle.record.specs.Reading.{cutRefusal, sizeRefusal}
 use Rattle.record.specs.Writing.{writeAnswer, writeOut, writeRefusal}

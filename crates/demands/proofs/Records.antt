@@ -1,18 +1,18 @@
 -- The theorem on records of demand 2.
-use mathlib.Core.Path.{_≡_, refl, sym, _∙_}
-use mathlib.Core.Bool.{Bool, true, false}
+use mathlib.Core.Path.{_≡_, refl}
+use mathlib.Core.Bool.{false}
 use mathlib.Core.List.{List}
-use Prim.Native.Nat.{ℕ, _*_, _≤_, _<_}
+use Prim.Native.Nat.{ℕ, _*_, _≤_}
 use native.Mathlib.Omega.{arith}
 use lib.Dec.{ltb}
 use lib.ListN.{length}
 use borrow.Author.Tests.{le-ltb, ltb-false}
-use Rattle.checks.proofs.Refusals.{refuse-none}
-use Rattle.parse.specs.Parse.{Parsed, early, late, plate, readOf}
-use Rattle.roundtrip.proofs.There.{read-there, record-injective}
-use Rattle.roundtrip.proofs.Exactly.{Numbered, read-exact, read-numbered}
+use Rattle.plate_refusals.proofs.Refusals.{refuse-none}
+use Rattle.record_parse.specs.Parse.{Parsed, early, late, plate, readOf}
+use Rattle.record_roundtrip.proofs.There.{read-there, record-injective}
+use Rattle.record_roundtrip.proofs.Exactly.{Numbered, read-exact, read-numbered}
 use Rattle.record.specs.Reading.{headOf, readRefusal}
-use Rattle.demands.specs.Records.{OneRecord, RecordRead}
+use Rattle.demands.specs.Records.{OneRecord}
 
 -- what is read without a refusal is a plate, and there are places for it
 accepted : (P : Parsed) (out : ℕ) → Numbered P → headOf (readRefusal P out) P .refusal ≡ 0

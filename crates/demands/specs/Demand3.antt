@@ -12,10 +12,9 @@ use Rattle.meaning.specs.Maxima.{LargeMaxima}
 use Rattle.meaning.specs.Nodes.{areaOf, nodesOf}
 use Rattle.meaning.specs.Cut.{total, darkest}
 use Rattle.meaning.specs.Record.{recordOf}
-use Rattle.parse.specs.Parse.{readOf}
+use Rattle.record_parse.specs.Parse.{readOf}
 use Rattle.record.specs.Writing.{writeAnswer, writeOut}
 use Rattle.record.specs.Reading.{cutRefusal, cutOut, headOf, sizeRefusal, sizeHeadOf, countsOut, lossesOut}
-use Rattle.record.specs.declared.Written.{Written}
 use Rattle.record.specs.declared.Head.{Head}
 use Rattle.record.specs.declared.SizeHead.{SizeHead}
 

@@ -7,7 +7,7 @@ use lib.ListN.{length}
 use Rattle.meaning.specs.Answers.{over}
 use Rattle.meaning.specs.Plate.{Plate}
 use Rattle.meaning.specs.Record.{recordOf}
-use Rattle.parse.specs.Parse.{plate, readOf}
+use Rattle.record_parse.specs.Parse.{plate, readOf}
 use Rattle.record.specs.Reading.{headOf, readOut, readRefusal}
 use Rattle.record.specs.declared.Head.{Head}
 

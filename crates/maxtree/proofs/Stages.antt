@@ -1,9 +1,9 @@
 -- One stage after the other: what flooding leaves is what numbering asks, and the two together build the tree.
-use mathlib.Core.Path.{_≡_, _∙_}
+use mathlib.Core.Path.{_∙_}
 use mathlib.Core.List.{List}
 use Prim.Native.Nat.{ℕ}
-use Rattle.columns.specs.Layout.{Buildable, Built, FloodBuilt}
-use Rattle.columns.proofs.Columns.{frame-room, frame-trans}
+use Rattle.work_columns.specs.Layout.{Buildable, Built, FloodBuilt}
+use Rattle.work_columns.proofs.Columns.{frame-room, frame-trans}
 
 pub still-buildable : {k wd ht n : ℕ} {w w′ : List ℕ} → Buildable k wd ht n w → FloodBuilt k wd n w w′ → Buildable k wd ht n w′
 still-buildable b f = record {

@@ -1,13 +1,13 @@
--- 01's examples and the slips that it names, computed from the definitions.
+-- the examples and the slips of SPECIFICATION 10, computed from the definitions.
 use mathlib.Core.Path.{_≡_, refl}
-use mathlib.Core.Bool.{Bool, true, false}
-use mathlib.Core.List.{List, [], _∷_, map}
+use mathlib.Core.Bool.{true}
+use mathlib.Core.List.{[], _∷_, map}
 use Prim.Native.Nat.{ℕ, zero, suc, _-_, _*_}
 use native.Mathlib.Omega.{arith}
-use lib.Dec.{ltb, leb}
+use lib.Dec.{ltb}
 use Rattle.meaning.specs.Sets.{area, table}
 use Rattle.meaning.specs.Plate.{greatestGrey, apart}
-use Rattle.meaning.specs.Opening.{opened, closed, atLeast, attribute}
+use Rattle.meaning.specs.Opening.{opened, atLeast, attribute}
 use Rattle.meaning.specs.Maxima.{marks}
 use Rattle.meaning.specs.Nodes.{nodesOf}
 use Rattle.meaning.specs.Cut.{cut, counts, losses, total, darkest}
@@ -16,12 +16,12 @@ use Rattle.meaning.specs.Ink.{inkOf}
 use Rattle.meaning.specs.Answers.{cleanRefusal, maximaRefusal, treeRefusal}
 use Rattle.meaning.specs.Examples.{small, run, marked, Case, edges, steps, places}
 
--- every case that 01 marks
+-- every worked case of SPECIFICATION 10
 pub marked-hold : map (λ (c : Case). run (c .job)) marked ≡ map (λ (c : Case). c .answer) marked
 unfolding run
 marked-hold = refl
 
--- the small plate's record is 01's 27 bytes
+-- the small plate's record is the 27 bytes of SPECIFICATION 10
 pub record-27 : recordOf 4 4 3 small
     ≡ 4 ∷ 3 ∷ 4 ∷ 4 ∷ 10 ∷ 12 ∷ 1 ∷ 20 ∷ 2 ∷ 1 ∷ 20 ∷ 1 ∷ 3 ∷ 80 ∷ 1 ∷ 0 ∷ 0 ∷ 0 ∷ 0 ∷ 0 ∷ 2 ∷ 1 ∷ 0 ∷ 0 ∷ 0 ∷ 0 ∷ 3 ∷ []
 unfolding recordOf

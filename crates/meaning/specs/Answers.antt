@@ -1,7 +1,7 @@
--- What an operation answers and what it leaves in its buffers: 01's "Refusals, operation by operation". An operation's refusal is a definition
+-- What an operation answers and what it leaves in its buffers: SPECIFICATION 9. An operation's refusal is a definition
 -- of the sizes that it was given; 0 is no refusal.
-use mathlib.Core.Bool.{Bool, true, false, not, _&&_, _||_}
-use mathlib.Core.List.{List, [], _++_}
+use mathlib.Core.Bool.{Bool, not, _&&_, _||_}
+use mathlib.Core.List.{List, _++_}
 use Prim.Native.Nat.{ℕ, _*_}
 use lib.Dec.{eqb, leb, ltb}
 use lib.ListN.{length, drop, replicate}

@@ -1,7 +1,7 @@
 -- The cut of a plate's tree at a limit, total and darkest grey, and the size list (pattern spectrum).
 use mathlib.Core.Bool.{Bool, _&&_}
 use mathlib.Core.List.{List}
-use Prim.Native.Nat.{ℕ, suc, _+_, _-_}
+use Prim.Native.Nat.{ℕ, suc, _-_}
 use lib.Dec.{eqb}
 use lib.ListN.{length}
 use Rattle.meaning.specs.Sets.{pick, area, sum, most, lowest, table, elem}

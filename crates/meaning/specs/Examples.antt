@@ -1,4 +1,4 @@
--- 01's small plate and the examples that it marks, as a table.
+-- SPECIFICATION 10's small plate and its worked cases, as a table.
 use mathlib.Core.List.{List, [], _∷_}
 use Prim.Native.Nat.{ℕ}
 use Rattle.meaning.specs.Opening.{opened, closed}
@@ -40,7 +40,7 @@ three = 10 ∷ 10 ∷ 10 ∷ 10 ∷ 10 ∷ 30 ∷ 30 ∷ 10 ∷ 10 ∷ 10 ∷ 10
 abbrev raised : List ℕ
 raised = 30 ∷ 30 ∷ 30 ∷ 30 ∷ 30 ∷ 50 ∷ 30 ∷ 30 ∷ 30 ∷ 30 ∷ 30 ∷ 90 ∷ []
 
--- the eleven cases that 01 marks with *
+-- the eleven worked cases of SPECIFICATION 10
 abbrev pub marked : List Case
 marked =
     case (opening 4 1) small
@@ -56,7 +56,7 @@ marked =
     ∷ case (ink 255) (0 ∷ [])
     ∷ []
 
--- ---- plates for the slips that 01 names
+-- ---- plates for the slips of SPECIFICATION 10
 
 -- two light pixels that are next to each other in the list, at the right edge of a row and at the left edge of the next: rows 0 0 9 / 9 0 0
 abbrev pub edges : List ℕ

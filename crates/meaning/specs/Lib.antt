@@ -1,5 +1,5 @@
--- The definitions that the contracts cite, in the words of paper 01; docs/ARCHITECTURE.md says what each file has. They compute, so that the
--- checker evaluates 01's examples, and they are naive on purpose.
+-- The definitions that the contracts cite, in the words of docs/SPECIFICATION.md; docs/ARCHITECTURE.md says what each file has. They compute, so that the
+-- checker evaluates the specification's examples, and they are naive on purpose.
 pub mod Sets
 pub mod Paths
 pub mod Component

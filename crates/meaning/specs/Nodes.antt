@@ -5,7 +5,7 @@ use mathlib.Core.List.{List}
 use Prim.Native.Nat.{ℕ, zero, suc, _-_, _≤_, _<_}
 use lib.Dec.{T, eqb}
 use lib.ListN.{length}
-use Rattle.meaning.specs.Sets.{Within, area, greatest, lowest, table, nth, has, place, rising, gather}
+use Rattle.meaning.specs.Sets.{Within, area, greatest, lowest, nth, has, place, rising, gather}
 use Rattle.meaning.specs.Paths.{Joined}
 use Rattle.meaning.specs.Opening.{lighter, patch}
 use Rattle.meaning.specs.Plate.{greatestGrey, touch, grey}
@@ -58,7 +58,7 @@ module _ (n : ℕ) (near : ℕ → ℕ → Bool) (f : ℕ → ℕ) (xs : List �
   rise zero = levelOf 0
   rise (suc j) = levelOf (suc j) - levelOf (parent (suc j))
 
--- ---- 01's words
+-- ---- the specification's words
 
 -- s is a node: for some t it is the component, in the level set at t, of a pixel p of it
 pub record NodeSet (n : ℕ) (near : ℕ → ℕ → Bool) (f : ℕ → ℕ) (s : ℕ → Bool) : Type 0 where

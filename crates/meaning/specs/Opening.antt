@@ -14,7 +14,7 @@ use Rattle.meaning.specs.Plate.{touch, grey, negative}
 abbrev pub lighter : (ℕ → ℕ) → ℕ → ℕ → Bool
 lighter f t q = leb t (f q)
 
--- 01's patch: the component of p in the level set at t
+-- a patch (SPECIFICATION 3): the component of p in the level set at t
 unfoldable pub patch : ℕ → (ℕ → ℕ → Bool) → (ℕ → ℕ) → ℕ → ℕ → List Bool
 unfolding component
 patch n near f t p = component n near (lighter f t) p
@@ -57,7 +57,7 @@ unfoldable pub closed : ℕ → ℕ → ℕ → List ℕ → List ℕ
 unfolding opened negative
 closed k w limit f = negative (opened k w limit (negative f))
 
--- ---- 01's words
+-- ---- the specification's words
 
 -- a connected set of at least `limit` distinct pixels that contains p, with no grey below t
 pub record Region (n : ℕ) (near : ℕ → ℕ → Bool) (f : ℕ → ℕ) (limit t p : ℕ) : Type 0 where

@@ -3,7 +3,7 @@ use mathlib.Core.Bool.{Bool, true}
 use Prim.Native.Nat.{ℕ, _<_}
 use lib.Dec.{T}
 
--- a path from p over pixels below n that all pass the test `ok`, each near the next. 01's "connected" is: any two are joined
+-- a path from p over pixels below n that all pass the test `ok`, each near the next. "Connected" is: any two are joined
 pub data Joined (n : ℕ) (near : ℕ → ℕ → Bool) (ok : ℕ → Bool) (p : ℕ) : ℕ → Type 0 where
   here : p < n → T (ok p) → Joined n near ok p p
   step : {q r : ℕ} → Joined n near ok p q → T (near q r) → r < n → T (ok r) → Joined n near ok p r

@@ -1,4 +1,4 @@
--- A plate (a grey image): a list of greys, row by row; 01's "Grid and ticket". The one place that knows the sizes, the kinds of
+-- A plate (a grey image): a list of greys, row by row; SPECIFICATION 2. The one place that knows the sizes, the kinds of
 -- connectivity and the greatest grey.
 use mathlib.Core.Path.{_≡_}
 use mathlib.Core.Bool.{Bool, true, _&&_, _||_}
@@ -46,7 +46,7 @@ grey f p = getD f p 0
 unfoldable pub negative : List ℕ → List ℕ
 negative f = map (λ (g : ℕ). greatestGrey - g) f
 
--- f is a plate of width w and height h, with connectivity k: what 01 calls an accepted plate with its connectivity
+-- f is a plate of width w and height h, with connectivity k: an accepted plate with its connectivity (SPECIFICATION 2)
 pub record Plate (k w h : ℕ) (f : List ℕ) : Type 0 where
   pub kind : connectivityFits k ≡ true
   pub sizes : gridFits w h ≡ true

@@ -138,7 +138,7 @@ cases =
     -- leading zeros; an output that is just long enough
     ∷ reads 1 1 "........." "P5 00001 00001 00255 a" "a........"
     ∷ reads 2 3 "------" "P5 2 3 255 abcdef" "abcdef"
-    -- files made by Netpbm: pgmmake 0.5 3 2; pgmramp -lr 4 3; pamtopnm of the small plate of 01; pgmmake -maxval=15 0.5 2 2; pbmmake -gray 4 2; two images
+    -- files made by Netpbm: pgmmake 0.5 3 2; pgmramp -lr 4 3; pamtopnm of the small plate of SPECIFICATION 10; pgmmake -maxval=15 0.5 2 2; pbmmake -gray 4 2; two images
     ∷ reads 3 2 "............" "P5\n3 2\n255\n\u{80}\u{80}\u{80}\u{80}\u{80}\u{80}" "\u{80}\u{80}\u{80}\u{80}\u{80}\u{80}......"
     ∷ reads 4 3 "............" "P5\n4 3\n255\n\0Uªÿ\0Uªÿ\0Uªÿ" "\0Uªÿ\0Uªÿ\0Uªÿ"
     ∷ reads 4 3 "............" "P5\n4 3\n255\n\n\n\n\n\n2\u{1e}\n\n\n\nZ" "\n\n\n\n\n2\u{1e}\n\n\n\nZ"

@@ -1,4 +1,4 @@
--- What reading a plate file answers: 01's refusals in their order, and the plate.
+-- What reading a plate file answers: the refusals of SPECIFICATION 9 in their order, and the plate.
 use mathlib.Core.Path.{_≡_}
 use mathlib.Core.Bool.{not}
 use mathlib.Core.List.{List, []}

@@ -1,4 +1,4 @@
--- What a plate file is, in the words of paper 01: the grammar of its header on lists of bytes, what a header step answers by it, and what
+-- What a plate file is, in the words of docs/SPECIFICATION.md: the grammar of its header on lists of bytes, what a header step answers by it, and what
 -- reading a file answers.
 pub mod Grammar
 pub mod Steps

@@ -1,4 +1,4 @@
-// Reads a plate file, the binary form of Netpbm's PGM: 01's "Plate file". specs/Grammar.antt has the grammar of a header on lists of
+// Reads a plate file, the binary form of Netpbm's PGM: SPECIFICATION 5. specs/Grammar.antt has the grammar of a header on lists of
 // bytes, specs/Steps.antt what a header step answers by it, specs/File.antt what reading a file answers, and specs/Examples.antt examples.
 ghost use mathlib.Core.Path.{_≡_};
 ghost use mathlib.Core.Bool.{_&&_};

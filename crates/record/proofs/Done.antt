@@ -1,31 +1,27 @@
 -- The operations that read a record, where nothing is refused: the tree of its plate stands in the work space.
-use mathlib.Core.Path.{_≡_, refl, sym, ap, _∙_}
-use mathlib.Core.Bool.{Bool, true, false, not, _&&_, _||_}
+use mathlib.Core.Path.{_≡_, sym, ap, _∙_}
+use mathlib.Core.Bool.{Bool, false, not, _&&_, _||_}
 use mathlib.Core.List.{List, _++_}
-use Prim.Native.Nat.{ℕ, _-_, _*_, _≤_, _<_}
+use Prim.Native.Nat.{ℕ, _-_, _*_, _≤_}
 use native.Mathlib.Omega.{arith}
-use lib.Dec.{T, eqb, leb, ltb, leb→le}
+use lib.Dec.{T, leb, ltb, leb→le}
 use lib.ListN.{length, drop, replicate}
 use borrow.Author.Tests.{le-ltb, ltb-false, not-false}
 use Rattle.meaning.specs.Answers.{outRefusal, over, refuse}
 use Rattle.meaning.specs.Cut.{darkest}
 use Rattle.meaning.specs.Nodes.{anchors, nodesOf}
 use Rattle.meaning.specs.Plate.{greatestGrey, touch}
-use Rattle.columns.specs.Columns.{Room}
-use Rattle.columns.specs.Layout.{Greys}
-use Rattle.columns.proofs.Columns.{frame-trans}
-use Rattle.connectivity.proofs.Sizes.{grid-sizes}
-use Rattle.connectivity.proofs.Tests.{neither, passes, tests}
-use Rattle.checks.proofs.Refusals.{refuse-none}
-use Rattle.plate.specs.Standing.{Standing}
-use Rattle.parse.specs.Parse.{Parsed}
-use Rattle.fields.specs.Fields.{plateIn}
-use Rattle.fields.proofs.Standing.{standing-plate}
-use Rattle.cuts.specs.Standing.{CutWritten, OfPlate, SizesWritten, Stands, TablesFit}
-use Rattle.readtree.specs.Found.{GreysStand}
-use Rattle.readtree.proofs.Finding.{TreeFound, cleared}
-use Rattle.record.specs.declared.Head.{Head}
-use Rattle.record.specs.declared.SizeHead.{SizeHead}
+use Rattle.work_columns.specs.Columns.{Room}
+use Rattle.work_columns.proofs.Columns.{frame-trans}
+use Rattle.theory_connectivity.proofs.Sizes.{grid-sizes}
+use Rattle.theory_lists.proofs.Tests.{neither, passes, tests}
+use Rattle.plate_refusals.proofs.Refusals.{refuse-none}
+use Rattle.record_parse.specs.Parse.{Parsed}
+use Rattle.record_fields.specs.Fields.{plateIn}
+use Rattle.record_fields.proofs.Standing.{standing-plate}
+use Rattle.record_cut.specs.Standing.{CutWritten, OfPlate, SizesWritten, Stands, TablesFit}
+use Rattle.record_tree.specs.Found.{GreysStand}
+use Rattle.record_tree.proofs.Finding.{TreeFound, cleared}
 use Rattle.record.specs.Reading.{CutRecord, ListedSizes, ReadRecord}
 
 module _ {P : Parsed} {wd ht k count : ℕ} {work w₁ : List ℕ} (t : TreeFound P wd ht k work w₁ count) where
@@ -48,7 +44,7 @@ module _ {P : Parsed} {wd ht k count : ℕ} {work w₁ : List ℕ} (t : TreeFoun
   -- ---- reading
 
   pub read-greys : {out : List ℕ} → wd * ht ≤ length out → GreysStand (wd * ht) w₁ out
-  read-greys l = record { room = tree-room; greys = rw (← long) (t .standing .grown .tree .greys); places = l }
+  read-greys l = record { room = tree-room; greys = rw (← long) (t .standing .facts .tree .greys); places = l }
 
   pub read-done : {out out′ w₂ : List ℕ} → wd * ht ≤ length out → out′ ≡ over (plateIn (wd * ht) w₁) out
       → w₂ ≡ replicate (8 * (wd * ht)) 0 ++ drop (8 * (wd * ht)) w₁
@@ -86,12 +82,12 @@ module _ {P : Parsed} {wd ht k count : ℕ} {work w₁ : List ℕ} (t : TreeFoun
   pub tree-nodes : count ≡ length (nodesOf k wd (t .f))
   unfolding nodesOf
   tree-nodes =
-      t .standing .grown .tree .nodes
+      t .standing .facts .tree .nodes
       ∙ ap (λ (g : ℕ → ℕ). length (anchors greatestGrey (length (t .f)) (touch k wd) g)) (t .standing .same)
 
   -- the number of nodes fits
   pub tree-nodes-few : count ≤ 16777216
-  tree-nodes-few = omega (arith, tree-few, t .standing .grown .few-nodes, long)
+  tree-nodes-few = omega (arith, tree-few, t .standing .facts .few-nodes, long)
 
   module _ {counted lost : List ℕ} (z : (ltb (length counted) (wd * ht - 1) || ltb (length lost) (wd * ht - 1)) ≡ false) where
     pub sizes-fit : TablesFit (wd * ht) counted lost

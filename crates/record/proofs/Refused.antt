@@ -1,22 +1,22 @@
 -- The operations that read a record, where it is refused: up to 24, and by their own conditions 4 and 5. P: what reading finds up to 24.
 use mathlib.Core.Logic.{_⊎_, ⊎-elim}
-use mathlib.Core.Path.{_≡_, refl, sym, ap, _∙_}
-use mathlib.Core.Bool.{Bool, true, false, not, _&&_, _||_}
+use mathlib.Core.Path.{_≡_, refl}
+use mathlib.Core.Bool.{true, false, not, _&&_, _||_}
 use mathlib.Core.List.{List, [], _∷_, _++_}
-use Prim.Native.Nat.{ℕ, _-_, _*_, _≤_, _<_}
+use Prim.Native.Nat.{ℕ, _-_, _*_, _<_}
 use native.Mathlib.Omega.{arith}
 use lib.Dec.{eqb, leb, ltb}
 use lib.ListN.{length, drop, replicate}
 use borrow.Author.Tests.{ne-eqb, lt-ltb}
 use types.Run.{OneOf}
 use denote.Enum.Declared.{tagOf}
-use Rattle.meaning.specs.Answers.{outRefusal, refuse, workAfter}
-use Rattle.columns.specs.Columns.{Frame}
-use Rattle.parse.specs.Parse.{Parsed, plate}
-use Rattle.readtree.specs.declared.Found.{Found}
-use Rattle.readtree.proofs.Found.{the-type}
-use Rattle.readtree.specs.Found.{FoundIs, ahead, behind, stands, clearedBy, numberOf}
-use Rattle.readtree.proofs.Finding.{cleared}
+use Rattle.meaning.specs.Answers.{outRefusal, refuse}
+use Rattle.work_columns.specs.Columns.{Frame}
+use Rattle.record_parse.specs.Parse.{Parsed, plate}
+use Rattle.record_tree.specs.declared.Found.{Found}
+use Rattle.record_tree.proofs.Found.{the-type}
+use Rattle.record_tree.specs.Found.{FoundIs, ahead, behind, stands, clearedBy, numberOf}
+use Rattle.record_tree.proofs.Finding.{cleared}
 use Rattle.record.specs.declared.Head.{Head}
 use Rattle.record.specs.declared.SizeHead.{SizeHead}
 use Rattle.record.specs.Reading.{CutRecord, ListedSizes, ReadRecord}

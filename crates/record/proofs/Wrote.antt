@@ -1,24 +1,22 @@
 -- What writing a record leaves: on a refusal, and with the record written.
 use mathlib.Core.Path.{_≡_, refl, sym, ap, _∙_}
-use mathlib.Core.Bool.{Bool, true, false}
+use mathlib.Core.Bool.{false}
 use mathlib.Core.List.{List, _++_}
 use Prim.Native.Nat.{ℕ, _*_, _≤_, _<_}
-use native.Mathlib.Omega.{arith}
 use lib.Dec.{eqb}
 use lib.ListN.{length, drop, replicate}
 use borrow.Author.Tests.{ne-eqb, lt-ltb, le-ltb}
 use Rattle.meaning.specs.Answers.{outRefusal, over, plateRefusal, workRefusal}
 use Rattle.meaning.specs.Plate.{grey}
 use Rattle.meaning.specs.Record.{recordOf}
-use Rattle.columns.specs.Columns.{col}
-use Rattle.columns.specs.Layout.{GREY}
-use Rattle.checks.proofs.Refusals.{Listable, tree-early, tree-first, tree-later, tree-none, plate-later}
-use Rattle.plate.specs.Standing.{Standing}
-use Rattle.plate.specs.Tree.{Planted, Ready}
-use Rattle.fields.specs.Fields.{plateIn}
-use Rattle.fields.proofs.Standing.{standing-here, standing-plate}
-use Rattle.readtree.proofs.Finding.{cleared}
-use Rattle.record.specs.declared.Written.{Written}
+use Rattle.work_columns.specs.Columns.{col}
+use Rattle.work_columns.specs.Layout.{GREY}
+use Rattle.plate_refusals.proofs.Refusals.{Listable, tree-early, tree-first, tree-later, tree-none, plate-later}
+use Rattle.plate_greys.specs.Standing.{Standing}
+use Rattle.plate_greys.specs.Tree.{PlateTree, Ready}
+use Rattle.record_fields.specs.Fields.{plateIn}
+use Rattle.record_fields.proofs.Standing.{standing-here, standing-plate}
+use Rattle.record_tree.proofs.Finding.{cleared}
 use Rattle.record.specs.Writing.{WrittenRecord, writeAnswer, writeOut, writeRefusal, writeWork}
 
 module _ (k w h : ℕ) (f out work : List ℕ) {r : ℕ} (e : r ≡ plateRefusal k w h (length f) (workRefusal w h (length work) 0)) where
@@ -39,27 +37,27 @@ module _ (k w h : ℕ) (f out work : List ℕ) {r : ℕ} (e : r ≡ plateRefusal
     pub wrote-ready : Ready k w h f work
     wrote-ready = record { taken = plate-later k w h (length f) 0 (listable .taken); room = listable .space }
 
-    module _ {w₁ : List ℕ} {count : ℕ} (p : Planted false k w f work w₁ count) where
-      planted-standing : Standing k w h f w₁ count
-      planted-standing =
+    module _ {w₁ : List ℕ} {count : ℕ} (p : PlateTree false k w f work w₁ count) where
+      plate-tree-standing : Standing k w h f w₁ count
+      plate-tree-standing =
           let same : col GREY (length f) w₁ ≡ grey f = p .same in
           record {
             plate = record {
               kind = listable .taken .kind;
               sizes = listable .taken .grid;
               long = listable .taken .long;
-              greys = λ q l. rw same at (p .grown .tree .greys q l);
+              greys = λ q l. rw same at (p .facts .tree .greys q l);
             };
             room = p .room;
             same = p .same;
-            grown = p .grown;
+            facts = p .facts;
           }
 
       pub wrote-here : Standing k w h (plateIn (length f) w₁) w₁ count
-      wrote-here = standing-here planted-standing (length f) refl
+      wrote-here = standing-here plate-tree-standing (length f) refl
 
       plain : plateIn (length f) w₁ ≡ f
-      plain = standing-plate planted-standing (length f) refl
+      plain = standing-plate plate-tree-standing (length f) refl
 
       refusal-is : writeRefusal k w h f out work ≡ outRefusal (length (recordOf k w h f)) (length out) 0
       unfolding writeRefusal
@@ -79,7 +77,7 @@ module _ (k w h : ℕ) (f out work : List ℕ) {r : ℕ} (e : r ≡ plateRefusal
               answer = rw is;
               output = rw is;
               space = rw (is, ← (listable .taken .long)) (cleared (p .frame) c);
-              accepted = λ none. planted-standing .plate;
+              accepted = λ none. plate-tree-standing .plate;
             }
 
         -- the record
@@ -92,5 +90,5 @@ module _ (k w h : ℕ) (f out work : List ℕ) {r : ℕ} (e : r ≡ plateRefusal
               answer = rw (is, size-is);
               output = rw is (rw plain at d);
               space = rw (is, ← (listable .taken .long)) (cleared (p .frame) c);
-              accepted = λ none. planted-standing .plate;
+              accepted = λ none. plate-tree-standing .plate;
             }

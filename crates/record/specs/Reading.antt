@@ -1,5 +1,5 @@
 -- Reading a record, cutting it, its size list. Each starts from what reading finds up to 24 (`readOf` of the crate `parse`).
-use mathlib.Core.Bool.{Bool, true, false, _||_}
+use mathlib.Core.Bool.{true, _||_}
 use mathlib.Core.Path.{_≡_}
 use mathlib.Core.List.{List}
 use Prim.Native.Nat.{ℕ, _-_, _*_}
@@ -9,7 +9,7 @@ use Rattle.meaning.specs.Sets.{pick}
 use Rattle.meaning.specs.Nodes.{nodesOf}
 use Rattle.meaning.specs.Cut.{cut, counts, losses, darkest}
 use Rattle.meaning.specs.Answers.{refuse, limitRefusal, outRefusal, outAfter, workAfter}
-use Rattle.parse.specs.Parse.{Parsed, early, late, plate}
+use Rattle.record_parse.specs.Parse.{Parsed, early, late, plate}
 use Rattle.record.specs.declared.Head.{Head}
 use Rattle.record.specs.declared.SizeHead.{SizeHead}
 

@@ -5,10 +5,10 @@ ghost use Prim.Native.Nat.{_-_};
 ghost use lib.Dec.{leb, ltb};
 ghost use lib.ListN.{length};
 ghost use Rattle.meaning.specs.Answers.{refuse, outRefusal};
-ghost use Rattle.parse.specs.Parse.{readOf};
+ghost use Rattle.record_parse.specs.Parse.{readOf};
 ghost use Rattle.record.specs.Writing.{WrittenRecord};
 ghost use Rattle.record.specs.Reading.{ReadRecord, CutRecord, ListedSizes};
-use readtree::Found;
+use record_tree::Found;
 
 // What writing answers: the length of the record, in bytes.
 #[repr(C)]
@@ -104,24 +104,24 @@ pub fn write_record(
     ensures { λ r. ⌜ WrittenRecord connectivity width height (now (image .entry)) (now (out .entry)) (now (out .exit)) (now (work .entry)) (now (work .exit)) r ⌝ }
 {
     let n = image.len();
-    let refusal = checks::tree_refusal(connectivity, width, height, n, work.len());
+    let refusal = plate_refusals::tree_refusal(connectivity, width, height, n, work.len());
     if refusal != 0 {
         return Written {
             refusal: refusal,
             length: 0,
         };
     }
-    let count = platetree::plate_tree(image, false, width, height, connectivity, work);
-    let size = fields::measure(work, n, width, height, connectivity, count);
+    let count = plate_tree::plate_tree(image, false, width, height, connectivity, work);
+    let size = record_fields::measure(work, n, width, height, connectivity, count);
     if out.len() < size {
-        columns::clear(work, n);
+        work_columns::clear(work, n);
         return Written {
             refusal: 5,
             length: 0,
         };
     }
-    fields::write(work, n, width, height, connectivity, count, out);
-    columns::clear(work, n);
+    record_fields::write(work, n, width, height, connectivity, count, out);
+    work_columns::clear(work, n);
     Written {
         refusal: 0,
         length: size,
@@ -132,17 +132,17 @@ pub fn write_record(
 pub fn read_record(bytes: &[u8], out: &mut [u8], work: &mut [u32]) -> Head
     ensures { λ r. ⌜ ReadRecord (readOf (now (bytes .entry)) (length (now (work .entry)))) (now (out .entry)) (now (out .exit)) (now (work .entry)) (now (work .exit)) r ⌝ }
 {
-    let f = readtree::read_tree(bytes, work);
+    let f = record_tree::read_tree(bytes, work);
     let Found::Tree(width, height, connectivity, _) = f else {
-        return refused_head(readtree::give_up(f, work));
+        return refused_head(record_tree::give_up(f, work));
     };
     let n = (width * height) as usize;
     if out.len() < n {
-        columns::clear(work, n);
+        work_columns::clear(work, n);
         return refused_head(5);
     }
-    readtree::write_greys(work, n, out);
-    columns::clear(work, n);
+    record_tree::write_greys(work, n, out);
+    work_columns::clear(work, n);
     Head {
         refusal: 0,
         width: width,
@@ -155,18 +155,18 @@ pub fn read_record(bytes: &[u8], out: &mut [u8], work: &mut [u32]) -> Head
 pub fn cut_record(bytes: &[u8], limit: u32, out: &mut [u8], work: &mut [u32]) -> Head
     ensures { λ r. ⌜ CutRecord (readOf (now (bytes .entry)) (length (now (work .entry)))) limit (now (out .entry)) (now (out .exit)) (now (work .entry)) (now (work .exit)) r ⌝ }
 {
-    let f = readtree::read_tree(bytes, work);
+    let f = record_tree::read_tree(bytes, work);
     let Found::Tree(width, height, connectivity, count) = f else {
-        return refused_head(readtree::give_up(f, work));
+        return refused_head(record_tree::give_up(f, work));
     };
     let n = (width * height) as usize;
     let refusal = cut_refusal(limit as usize, n, out.len());
     if refusal != 0 {
-        columns::clear(work, n);
+        work_columns::clear(work, n);
         return refused_head(refusal);
     }
-    cuts::cut_plate(work, n, count, limit as usize, out);
-    columns::clear(work, n);
+    record_cut::cut_plate(work, n, count, limit as usize, out);
+    work_columns::clear(work, n);
     Head {
         refusal: 0,
         width: width,
@@ -179,18 +179,18 @@ pub fn cut_record(bytes: &[u8], limit: u32, out: &mut [u8], work: &mut [u32]) ->
 pub fn size_list(bytes: &[u8], counts: &mut [u32], losses: &mut [u64], work: &mut [u32]) -> SizeHead
     ensures { λ r. ⌜ ListedSizes (readOf (now (bytes .entry)) (length (now (work .entry)))) (now (counts .entry)) (now (counts .exit)) (now (losses .entry)) (now (losses .exit)) (now (work .entry)) (now (work .exit)) r ⌝ }
 {
-    let f = readtree::read_tree(bytes, work);
+    let f = record_tree::read_tree(bytes, work);
     let Found::Tree(width, height, connectivity, count) = f else {
-        return refused_sizes(readtree::give_up(f, work));
+        return refused_sizes(record_tree::give_up(f, work));
     };
     let n = (width * height) as usize;
     if tables_short(n, counts.len(), losses.len()) {
-        columns::clear(work, n);
+        work_columns::clear(work, n);
         return refused_sizes(5);
     }
-    cuts::list_sizes(work, n, count, counts, losses);
-    let darkest = cuts::darkest_of(work, n);
-    columns::clear(work, n);
+    record_cut::list_sizes(work, n, count, counts, losses);
+    let darkest = record_cut::darkest_of(work, n);
+    work_columns::clear(work, n);
     SizeHead {
         refusal: 0,
         width: width,

@@ -1,4 +1,4 @@
-// Prints the size list of the plate file on standard input: `sizetext::size_text` makes the text.
+// Prints the size list of the plate file on standard input: `text_sizelist::size_text` makes the text.
 use libc::STDIN_FILENO;
 use libc::STDOUT_FILENO;
 
@@ -7,6 +7,6 @@ fn main() {
     let mut file = [0u8; 4097];
     let n = io::read_full(STDIN_FILENO, &mut file);
     let mut text = io::large_buffer();
-    let size = sizetext::size_text(&file[..n], &mut text);
+    let size = text_sizelist::size_text(&file[..n], &mut text);
     io::write_all(STDOUT_FILENO, &text[..size]);
 }

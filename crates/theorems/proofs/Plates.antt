@@ -1,12 +1,11 @@
 -- From lists of greys to the theory: a plate is a grid, its anchors number its nodes, and its opening, cut and size list at a pixel or an area.
-use mathlib.Core.Path.{_≡_, refl, sym, ap, _∙_}
-use mathlib.Core.Bool.{Bool}
-use mathlib.Core.List.{List, [], _∷_, map}
-use Prim.Native.Nat.{ℕ, zero, suc, _+_, _-_, _*_, _≤_, _<_}
+use mathlib.Core.Path.{_≡_, ap, _∙_}
+use mathlib.Core.List.{List}
+use Prim.Native.Nat.{ℕ, suc, _-_, _≤_, _<_}
 use native.Mathlib.Nat.{mul-comm, le-antisymm}
 use native.Mathlib.Omega.{arith}
-use lib.Dec.{T, leb, leb→le, le→leb}
-use lib.ListN.{length, getD, length-map}
+use lib.Dec.{T}
+use lib.ListN.{length, length-map}
 use lib.Seq.{ext-getD}
 use Rattle.meaning.specs.Cut.{cut, cutAt, darkest, total}
 use Rattle.meaning.specs.Nodes.{nodesOf}
@@ -14,18 +13,18 @@ use Rattle.meaning.specs.Opening.{Criterion, atLeast, attribute, closed, opened
 use Rattle.meaning.specs.Paths.{Grid}
 use Rattle.meaning.specs.Plate.{Plate, greatestGrey, grey, negative, touch}
 use Rattle.meaning.specs.Sets.{elem, lowest, nth, place, sum, table}
-use Rattle.connectivity.specs.Members.{Lowest}
-use Rattle.connectivity.proofs.Sizes.{Sizes, grid-sizes}
-use Rattle.connectivity.proofs.Lists.{getD-map, table-same, elem-nth, getD-table, length-table, place-is}
-use Rattle.connectivity.proofs.Sets.{lowest-is}
-use Rattle.connectivity.proofs.Sums.{sum-cong}
-use Rattle.connectivity.proofs.Touch.{list-grid}
-use Rattle.opening.proofs.Area.{area-attribute}
-use Rattle.opening.proofs.Attribute.{attribute-criterion}
-use Rattle.opening.proofs.Opening.{opened-below}
-use Rattle.tree.specs.Tree.{Nodes}
-use Rattle.tree.proofs.Losses.{cut-opened}
-use Rattle.tree.proofs.Nodes.{anchors-nodes, nth-inside, root-level, some-node}
+use Rattle.theory_lists.specs.Members.{Lowest}
+use Rattle.theory_connectivity.proofs.Sizes.{Sizes, grid-sizes}
+use Rattle.theory_lists.proofs.Lists.{getD-map, table-same, elem-nth, getD-table, length-table, place-is}
+use Rattle.theory_lists.proofs.Sets.{lowest-is}
+use Rattle.theory_lists.proofs.Sums.{sum-cong}
+use Rattle.theory_connectivity.proofs.Touch.{list-grid}
+use Rattle.theory_opening.proofs.Area.{area-attribute}
+use Rattle.theory_opening.proofs.Attribute.{attribute-criterion}
+use Rattle.theory_opening.proofs.Opening.{opened-below}
+use Rattle.theory_tree.specs.Tree.{Nodes}
+use Rattle.theory_tree.proofs.Losses.{cut-opened}
+use Rattle.theory_tree.proofs.Nodes.{anchors-nodes, nth-inside, root-level, some-node}
 
 -- ---- lists as functions
 

@@ -1,8 +1,8 @@
--- The theorems about plates, in 01's words: what a reader may rely on. Each cites the general law, which holds for any symmetric adjacency, any greys and any
+-- The theorems about plates, in the specification's words: what a reader may rely on. Each cites the general law, which holds for any symmetric adjacency, any greys and any
 -- increasing criterion or attribute (crates connectivity, opening and tree). A plate is a `Plate k w h f`: connectivity k, width w, height h, greys f.
 use mathlib.Core.Path.{_≡_, refl, sym, ap, _∙_}
 use mathlib.Core.Logic.{_⊎_, _↔_}
-use mathlib.Core.Bool.{Bool, true, _&&_}
+use mathlib.Core.Bool.{Bool, _&&_}
 use mathlib.Core.List.{List}
 use Prim.Native.Nat.{ℕ, suc, _+_, _-_, _*_, _≤_, _<_, max}
 use native.Mathlib.Omega.{arith}
@@ -16,19 +16,19 @@ use Rattle.meaning.specs.Opening.{Region, atLeast, attribute, closed, opened, o
 use Rattle.meaning.specs.Paths.{Grid, Joined}
 use Rattle.meaning.specs.Plate.{NowhereLighter, Plate, greatestGrey, grey, negative, touch}
 use Rattle.meaning.specs.Sets.{Within, has, nth, pick, sum, table}
-use Rattle.connectivity.proofs.Component.{component-complete, component-sound}
-use Rattle.connectivity.proofs.Lists.{table-same}
-use Rattle.opening.proofs.Absorb.{opened-cong}
-use Rattle.opening.proofs.Area.{area-attribute, area-words}
-use Rattle.opening.proofs.Attribute.{attribute-one, attribute-twice}
-use Rattle.opening.proofs.Maxima.{maxima-cong, maxima-kept, opened-lightest}
-use Rattle.opening.proofs.Opening.{opened-increasing}
-use Rattle.tree.specs.Tree.{Ancestor, Before, live}
-use Rattle.tree.proofs.Leaves.{leaf-maximum, maximum-leaf}
-use Rattle.tree.proofs.Losses.{area-total-all, cut-opened, losses-total, lost-nodes, total-lost, total-nodes}
-use Rattle.tree.proofs.NodeSets.{anchor-holds, anchor-lowest, level-least, node-number, nodes-chain, number-node, number-only, parent-holds}
-use Rattle.tree.proofs.Nodes.{holds-over, nested-or-apart, nodes-before, nth-inside, over-holds, own-below, own-level, own-over, parent-area, parent-below, parent-smallest, root-over}
-use Rattle.tree.proofs.Rises.{opened-sum}
+use Rattle.theory_connectivity.proofs.Component.{component-complete, component-sound}
+use Rattle.theory_lists.proofs.Lists.{table-same}
+use Rattle.theory_opening.proofs.Absorb.{opened-cong}
+use Rattle.theory_opening.proofs.Area.{area-attribute, area-words}
+use Rattle.theory_opening.proofs.Attribute.{attribute-one, attribute-twice}
+use Rattle.theory_opening.proofs.Maxima.{maxima-cong, maxima-kept, opened-lightest}
+use Rattle.theory_opening.proofs.Opening.{opened-increasing}
+use Rattle.theory_tree.specs.Tree.{Ancestor, Before, live}
+use Rattle.theory_tree.proofs.Leaves.{leaf-maximum, maximum-leaf}
+use Rattle.theory_tree.proofs.Losses.{area-total-all, cut-opened, losses-total, lost-nodes, total-lost, total-nodes}
+use Rattle.theory_tree.proofs.NodeSets.{anchor-holds, anchor-lowest, level-least, node-number, nodes-chain, number-node, number-only, parent-holds}
+use Rattle.theory_tree.proofs.Nodes.{holds-over, nested-or-apart, nodes-before, nth-inside, over-holds, own-below, own-level, own-over, parent-area, parent-below, parent-smallest, root-over}
+use Rattle.theory_tree.proofs.Rises.{opened-sum}
 use Rattle.theorems.proofs.Plates.{at-limit, closed-grey, cut-grey, cut-is-opened, darkest-root, negative-length, negative-plate, opened-below-plate, opened-grey, opened-length, opened-plate, plate-grid, plate-nodes, plate-some, table-grey, total-cut}
 
 -- ---- 1. paths and components
@@ -136,7 +136,7 @@ module _ {k w h : ℕ} {f : List ℕ} (plate : Plate k w h f) where
 
   -- ---- 5. the tree
 
-  -- each number below the count is a node in 01's sense, and each node has exactly one number
+  -- each number below the count is a node in the specification's sense, and each node has exactly one number
   pub numbers-are-nodes : (i : ℕ) → i < length xs → NodeSet n near (grey f) (holds n near (grey f) xs i)
   numbers-are-nodes = number-node (plate-grid plate) (plate-nodes plate)
 

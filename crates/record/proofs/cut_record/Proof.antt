@@ -2,14 +2,13 @@
 use borrow.Author.Needs.{needs}
 use Rattle.record.proofs.cut_record.Statement.{statement}
 use Rattle.record.proofs.cut_record.Tie as tie
-use mathlib.Core.Path.{_≡_, refl, sym, _∙_}
 use Prim.Native.Nat.{ℕ}
 use native.Mathlib.Omega.{arith}
 use denote.Ref.{now}
 use lib.ListN.{length}
-use Rattle.parse.specs.Parse.{readOf}
-use Rattle.readtree.proofs.Finding.{TreeFound, tree-found, found-clearable}
-use Rattle.columns.proofs.Columns.{frame-room}
+use Rattle.record_parse.specs.Parse.{readOf}
+use Rattle.record_tree.proofs.Finding.{TreeFound, tree-found, found-clearable}
+use Rattle.work_columns.proofs.Columns.{frame-room}
 use Rattle.record.proofs.Refused.{cut-stopped, cut-refused}
 use Rattle.record.proofs.Done.{tree-few, tree-room, tree-stands, cut-fits, cut-done}
 

@@ -2,13 +2,12 @@
 use borrow.Author.Needs.{needs}
 use Rattle.record.proofs.read_record.Statement.{statement}
 use Rattle.record.proofs.read_record.Tie as tie
-use mathlib.Core.Path.{_≡_, refl, sym, _∙_}
 use Prim.Native.Nat.{ℕ}
 use native.Mathlib.Omega.{arith}
 use denote.Ref.{now}
 use lib.ListN.{length}
-use Rattle.parse.specs.Parse.{readOf}
-use Rattle.readtree.proofs.Finding.{TreeFound, tree-found, found-clearable}
+use Rattle.record_parse.specs.Parse.{readOf}
+use Rattle.record_tree.proofs.Finding.{TreeFound, tree-found, found-clearable}
 use Rattle.record.proofs.Refused.{read-stopped, read-short}
 use Rattle.record.proofs.Done.{tree-few, tree-room, read-greys, read-done}
 

@@ -2,14 +2,13 @@
 use borrow.Author.Needs.{needs}
 use Rattle.record.proofs.size_list.Statement.{statement}
 use Rattle.record.proofs.size_list.Tie as tie
-use mathlib.Core.Path.{_≡_, refl, sym, _∙_}
+use mathlib.Core.Path.{sym, _∙_}
 use Prim.Native.Nat.{ℕ}
 use native.Mathlib.Omega.{arith}
 use denote.Ref.{now}
 use lib.ListN.{length}
-use Rattle.parse.specs.Parse.{readOf}
-use Rattle.readtree.proofs.Finding.{TreeFound, tree-found, found-clearable}
-use borrow.Author.Tests.{not-true}
+use Rattle.record_parse.specs.Parse.{readOf}
+use Rattle.record_tree.proofs.Finding.{TreeFound, tree-found, found-clearable}
 use Rattle.record.proofs.Refused.{sizes-stopped, sizes-short}
 use Rattle.record.proofs.Done.{tree-few, tree-some, tree-room, tree-stands, tree-nodes-few, sizes-fit, sizes-done}
 

@@ -4,7 +4,6 @@ use Rattle.record.proofs.write_record.Statement.{statement}
 use Rattle.record.proofs.write_record.Tie as tie
 use denote.Ref.{now}
 use native.Mathlib.Omega.{arith}
-use lib.ListN.{length}
 use Rattle.record.proofs.Wrote.{wrote-refused, wrote-ready, wrote-here, wrote-short, wrote-done}
 
 tree-refusal-requires : tie.Need-tree-refusal-requires

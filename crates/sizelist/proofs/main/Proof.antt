@@ -2,7 +2,7 @@
 use mathlib.Core.Path.{sym}
 use borrow.Author.Needs.{needs}
 use lib.Seq.{length-take-le}
-use Rattle.sizetext.proofs.Files.{made-fits}
+use Rattle.text_sizelist.proofs.Files.{made-fits}
 use Rattle.sizelist.proofs.main.Statement.{statement}
 use Rattle.sizelist.proofs.main.Tie as tie
 

@@ -1,0 +1,323 @@
+// The neighbours of a pixel, looked at until the flood rises.
+ghost use mathlib.Core.Path.{_≡_};
+ghost use Prim.Native.Nat.{ℕ, _+_, _*_, _<_};
+ghost use Rattle.flood_laws.specs.Contracts.{Looking, Toward, Looked, LookedIn, UpperRow, LowerRow, Visited, Popped};
+use work_columns::get;
+
+// The columns of the work space (specs/Layout.antt of the crate `columns`).
+const OWN: usize = 1;
+
+// The pixels, the width, the height and the connectivity of a plate.
+pub struct Shape {
+    pub n: usize,
+    pub width: usize,
+    pub height: usize,
+    pub connectivity: usize,
+}
+
+// The pixel in column x of row y.
+pub struct Pixel {
+    pub x: usize,
+    pub y: usize,
+}
+
+// Looks at the pixel `to`, which touches the current pixel, `at`: a new pixel, which holds its grey behind n, is pushed. The answer is h, or the
+// level to which the flood has risen; then `at` is back on its stack.
+fn look(w: &mut [u32], t: &mut [u32], g: Shape, at: Pixel, to: Pixel, h: usize) -> usize
+    requires { ⌜ Looking (g .connectivity) (g .width) (g .height) (g .n) (now w) (now t) h (at .x) (at .y) ⌝ }
+    requires { ⌜ Toward (g .connectivity) (g .width) (g .height) (at .x) (at .y) (to .x) (to .y) ⌝ }
+    ensures { λ r. ⌜ Looked (g .connectivity) (g .width) (g .height) (g .n) (now (w .entry)) (now (w .exit)) (now (t .entry)) (now (t .exit)) h (at .x) (at .y) (λ (q : ℕ). q ≡ to .y * g .width + to .x) r ⌝ }
+{
+    let n = g.n;
+    let q = to.y * g.width + to.x;
+    let o = get(w, n, OWN, q);
+    if o < n {
+        return h;
+    }
+    let m = o - n;
+    flood_levels::push(w, t, n, q, m, to.y * 65536 + to.x, h + 1);
+    if m <= h {
+        return h;
+    }
+    flood_levels::place(w, t, n, h, at.y * 65536 + at.x);
+    m
+}
+
+// Looks at the pixel right of `at`, direction 0, where there is one.
+fn right(w: &mut [u32], t: &mut [u32], g: Shape, at: Pixel, h: usize) -> usize
+    requires { ⌜ Looking (g .connectivity) (g .width) (g .height) (g .n) (now w) (now t) h (at .x) (at .y) ⌝ }
+    requires { ⌜ 0 < g .connectivity ⌝ }
+    ensures { λ r. ⌜ LookedIn (g .connectivity) (g .width) (g .height) (g .n) (now (w .entry)) (now (w .exit)) (now (t .entry)) (now (t .exit)) h (at .x) (at .y) 0 r ⌝ }
+{
+    if g.width <= at.x + 1 {
+        return h;
+    }
+    look(
+        w,
+        t,
+        g,
+        at,
+        Pixel {
+            x: at.x + 1,
+            y: at.y,
+        },
+        h,
+    )
+}
+
+// Looks at the pixel left of `at`, direction 1, where there is one.
+fn left(w: &mut [u32], t: &mut [u32], g: Shape, at: Pixel, h: usize) -> usize
+    requires { ⌜ Looking (g .connectivity) (g .width) (g .height) (g .n) (now w) (now t) h (at .x) (at .y) ⌝ }
+    requires { ⌜ 1 < g .connectivity ⌝ }
+    ensures { λ r. ⌜ LookedIn (g .connectivity) (g .width) (g .height) (g .n) (now (w .entry)) (now (w .exit)) (now (t .entry)) (now (t .exit)) h (at .x) (at .y) 1 r ⌝ }
+{
+    if at.x == 0 {
+        return h;
+    }
+    look(
+        w,
+        t,
+        g,
+        at,
+        Pixel {
+            x: at.x - 1,
+            y: at.y,
+        },
+        h,
+    )
+}
+
+// Looks at the pixel below `at`, direction 2, where there is one.
+fn lower(w: &mut [u32], t: &mut [u32], g: Shape, at: Pixel, h: usize) -> usize
+    requires { ⌜ Looking (g .connectivity) (g .width) (g .height) (g .n) (now w) (now t) h (at .x) (at .y) ⌝ }
+    requires { ⌜ 2 < g .connectivity ⌝ }
+    ensures { λ r. ⌜ LookedIn (g .connectivity) (g .width) (g .height) (g .n) (now (w .entry)) (now (w .exit)) (now (t .entry)) (now (t .exit)) h (at .x) (at .y) 2 r ⌝ }
+{
+    if g.height <= at.y + 1 {
+        return h;
+    }
+    look(
+        w,
+        t,
+        g,
+        at,
+        Pixel {
+            x: at.x,
+            y: at.y + 1,
+        },
+        h,
+    )
+}
+
+// Looks at the pixel above `at`, direction 3, where there is one.
+fn upper(w: &mut [u32], t: &mut [u32], g: Shape, at: Pixel, h: usize) -> usize
+    requires { ⌜ Looking (g .connectivity) (g .width) (g .height) (g .n) (now w) (now t) h (at .x) (at .y) ⌝ }
+    requires { ⌜ 3 < g .connectivity ⌝ }
+    ensures { λ r. ⌜ LookedIn (g .connectivity) (g .width) (g .height) (g .n) (now (w .entry)) (now (w .exit)) (now (t .entry)) (now (t .exit)) h (at .x) (at .y) 3 r ⌝ }
+{
+    if at.y == 0 {
+        return h;
+    }
+    look(
+        w,
+        t,
+        g,
+        at,
+        Pixel {
+            x: at.x,
+            y: at.y - 1,
+        },
+        h,
+    )
+}
+
+// Looks at the pixel left above `at`, direction 4, where there is one.
+fn upper_left(w: &mut [u32], t: &mut [u32], g: Shape, at: Pixel, h: usize) -> usize
+    requires { ⌜ Looking (g .connectivity) (g .width) (g .height) (g .n) (now w) (now t) h (at .x) (at .y) ⌝ }
+    requires { ⌜ 4 < g .connectivity ⌝ }
+    ensures { λ r. ⌜ LookedIn (g .connectivity) (g .width) (g .height) (g .n) (now (w .entry)) (now (w .exit)) (now (t .entry)) (now (t .exit)) h (at .x) (at .y) 4 r ⌝ }
+{
+    if at.x == 0 {
+        return h;
+    }
+    if at.y == 0 {
+        return h;
+    }
+    look(
+        w,
+        t,
+        g,
+        at,
+        Pixel {
+            x: at.x - 1,
+            y: at.y - 1,
+        },
+        h,
+    )
+}
+
+// Looks at the pixel right below `at`, direction 5, where there is one.
+fn lower_right(w: &mut [u32], t: &mut [u32], g: Shape, at: Pixel, h: usize) -> usize
+    requires { ⌜ Looking (g .connectivity) (g .width) (g .height) (g .n) (now w) (now t) h (at .x) (at .y) ⌝ }
+    requires { ⌜ 5 < g .connectivity ⌝ }
+    ensures { λ r. ⌜ LookedIn (g .connectivity) (g .width) (g .height) (g .n) (now (w .entry)) (now (w .exit)) (now (t .entry)) (now (t .exit)) h (at .x) (at .y) 5 r ⌝ }
+{
+    if g.width <= at.x + 1 {
+        return h;
+    }
+    if g.height <= at.y + 1 {
+        return h;
+    }
+    look(
+        w,
+        t,
+        g,
+        at,
+        Pixel {
+            x: at.x + 1,
+            y: at.y + 1,
+        },
+        h,
+    )
+}
+
+// Looks at the pixel right above `at`, direction 6, where there is one.
+fn upper_right(w: &mut [u32], t: &mut [u32], g: Shape, at: Pixel, h: usize) -> usize
+    requires { ⌜ Looking (g .connectivity) (g .width) (g .height) (g .n) (now w) (now t) h (at .x) (at .y) ⌝ }
+    requires { ⌜ 6 < g .connectivity ⌝ }
+    ensures { λ r. ⌜ LookedIn (g .connectivity) (g .width) (g .height) (g .n) (now (w .entry)) (now (w .exit)) (now (t .entry)) (now (t .exit)) h (at .x) (at .y) 6 r ⌝ }
+{
+    if at.x + 1 >= g.width {
+        return h;
+    }
+    if at.y == 0 {
+        return h;
+    }
+    look(
+        w,
+        t,
+        g,
+        at,
+        Pixel {
+            x: at.x + 1,
+            y: at.y - 1,
+        },
+        h,
+    )
+}
+
+// Looks at the pixel left below `at`, direction 7, where there is one.
+fn lower_left(w: &mut [u32], t: &mut [u32], g: Shape, at: Pixel, h: usize) -> usize
+    requires { ⌜ Looking (g .connectivity) (g .width) (g .height) (g .n) (now w) (now t) h (at .x) (at .y) ⌝ }
+    requires { ⌜ 7 < g .connectivity ⌝ }
+    ensures { λ r. ⌜ LookedIn (g .connectivity) (g .width) (g .height) (g .n) (now (w .entry)) (now (w .exit)) (now (t .entry)) (now (t .exit)) h (at .x) (at .y) 7 r ⌝ }
+{
+    if at.x == 0 {
+        return h;
+    }
+    if g.height <= at.y + 1 {
+        return h;
+    }
+    look(
+        w,
+        t,
+        g,
+        at,
+        Pixel {
+            x: at.x - 1,
+            y: at.y + 1,
+        },
+        h,
+    )
+}
+
+// Looks at the neighbours of `at` in the row above, until the flood rises. The answer is h, or the level to which the flood has risen.
+fn upper_row(w: &mut [u32], t: &mut [u32], g: Shape, at: Pixel, h: usize) -> usize
+    requires { ⌜ Looking (g .connectivity) (g .width) (g .height) (g .n) (now w) (now t) h (at .x) (at .y) ⌝ }
+    requires { ⌜ 6 < g .connectivity ⌝ }
+    ensures { λ r. ⌜ Looked (g .connectivity) (g .width) (g .height) (g .n) (now (w .entry)) (now (w .exit)) (now (t .entry)) (now (t .exit)) h (at .x) (at .y) (UpperRow (g .width) (at .y * g .width + at .x)) r ⌝ }
+{
+    let a = upper(w, t, g, at, h);
+    if a != h {
+        return a;
+    }
+    let b = upper_left(w, t, g, at, h);
+    if b != h {
+        return b;
+    }
+    upper_right(w, t, g, at, h)
+}
+
+// Looks at the neighbours of `at` in the row below, until the flood rises. The answer is h, or the level to which the flood has risen.
+fn lower_row(w: &mut [u32], t: &mut [u32], g: Shape, at: Pixel, h: usize) -> usize
+    requires { ⌜ Looking (g .connectivity) (g .width) (g .height) (g .n) (now w) (now t) h (at .x) (at .y) ⌝ }
+    requires { ⌜ 7 < g .connectivity ⌝ }
+    ensures { λ r. ⌜ Looked (g .connectivity) (g .width) (g .height) (g .n) (now (w .entry)) (now (w .exit)) (now (t .entry)) (now (t .exit)) h (at .x) (at .y) (LowerRow (g .width) (at .y * g .width + at .x)) r ⌝ }
+{
+    let a = lower(w, t, g, at, h);
+    if a != h {
+        return a;
+    }
+    let b = lower_left(w, t, g, at, h);
+    if b != h {
+        return b;
+    }
+    lower_right(w, t, g, at, h)
+}
+
+// Looks at the neighbours of `at` by a side, until the flood rises. The answer is h, or the level to which the flood has risen.
+fn four(w: &mut [u32], t: &mut [u32], g: Shape, at: Pixel, h: usize) -> usize
+    requires { ⌜ Looking (g .connectivity) (g .width) (g .height) (g .n) (now w) (now t) h (at .x) (at .y) ⌝ }
+    requires { ⌜ g .connectivity ≡ 4 ⌝ }
+    ensures { λ r. ⌜ Visited (g .connectivity) (g .width) (g .height) (g .n) (now (w .entry)) (now (w .exit)) (now (t .entry)) (now (t .exit)) r ⌝ }
+{
+    let a = upper(w, t, g, at, h);
+    if a != h {
+        return a;
+    }
+    let b = lower(w, t, g, at, h);
+    if b != h {
+        return b;
+    }
+    let c = left(w, t, g, at, h);
+    if c != h {
+        return c;
+    }
+    right(w, t, g, at, h)
+}
+
+// Looks at the neighbours of `at` by a side or a corner, until the flood rises. The answer is h, or the level to which the flood has risen.
+fn eight(w: &mut [u32], t: &mut [u32], g: Shape, at: Pixel, h: usize) -> usize
+    requires { ⌜ Looking (g .connectivity) (g .width) (g .height) (g .n) (now w) (now t) h (at .x) (at .y) ⌝ }
+    requires { ⌜ g .connectivity ≡ 8 ⌝ }
+    ensures { λ r. ⌜ Visited (g .connectivity) (g .width) (g .height) (g .n) (now (w .entry)) (now (w .exit)) (now (t .entry)) (now (t .exit)) r ⌝ }
+{
+    let a = upper_row(w, t, g, at, h);
+    if a != h {
+        return a;
+    }
+    let b = lower_row(w, t, g, at, h);
+    if b != h {
+        return b;
+    }
+    let c = left(w, t, g, at, h);
+    if c != h {
+        return c;
+    }
+    right(w, t, g, at, h)
+}
+
+// Looks at the neighbours of the pixel with the entry e, of the lightest open level h, until the flood rises: the level at which it goes on.
+pub fn visit(w: &mut [u32], t: &mut [u32], g: Shape, e: usize, h: usize) -> usize
+    requires { ⌜ Popped (g .connectivity) (g .width) (g .height) (g .n) (now w) (now t) h e ⌝ }
+    ensures { λ r. ⌜ Visited (g .connectivity) (g .width) (g .height) (g .n) (now (w .entry)) (now (w .exit)) (now (t .entry)) (now (t .exit)) r ⌝ }
+{
+    let at = Pixel {
+        x: e % 65536,
+        y: e / 65536,
+    };
+    if g.connectivity == 4 {
+        return four(w, t, g, at, h);
+    }
+    eight(w, t, g, at, h)
+}

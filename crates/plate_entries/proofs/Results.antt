@@ -1,0 +1,67 @@
+-- From a started list and the columns of the work space to the node entries of the definition.
+use mathlib.Core.Path.{_≡_, refl, ap, _∙_}
+use mathlib.Core.Bool.{false}
+use mathlib.Core.List.{List, _++_}
+use Prim.Native.Nat.{ℕ, zero, suc, _*_}
+use native.Mathlib.Omega.{arith}
+use lib.Dec.{eqb}
+use lib.ListN.{length, drop, replicate}
+use borrow.Author.Tests.{ne-eqb}
+use Rattle.meaning.specs.Nodes.{anchors}
+use Rattle.meaning.specs.Plate.{greatestGrey, touch}
+use Rattle.meaning.specs.Sets.{pick, table}
+use Rattle.work_columns.specs.Columns.{Room, col}
+use Rattle.work_columns.specs.Layout.{GREY}
+use Rattle.plate_greys.specs.Tree.{PlateTree}
+use Rattle.theory_lists.proofs.Lists.{table-same}
+use Rattle.plate_filter.specs.Operations.{Started}
+use Rattle.plate_filter.proofs.Results.{cleared-space, listed-count, nodes-same}
+use Rattle.plate_entries.specs.declared.Node.{Node}
+use Rattle.plate_entries.specs.Entries.{EntriesListed, Fillable, entries, nodeEntry, overNodes, standing}
+use Rattle.plate_entries.proofs.Lists.{filled-none}
+
+-- the entries that stand in the work space are the definition's
+module _ {k w : ℕ} {f work w₁ : List ℕ} {count : ℕ} (p : PlateTree false k w f work w₁ count) where
+  standing-entries : table count (standing (length f) w₁) ≡ entries k w f
+  unfolding standing entries
+  standing-entries =
+      let n : ℕ = length f in
+      let g : ℕ → ℕ = col GREY n w₁ in
+      let xs : List ℕ = anchors greatestGrey n (touch k w) g in
+      let t = p .facts .tree in
+      table-same count (standing n w₁) (nodeEntry n (touch k w) g xs) (λ i l. rw (t .level-is i l, t .parent-is i l, t .area-is i l, t .anchor-is i l))
+      ∙ rw (listed-count p, nodes-same p, p .same)
+
+not-zero : (r : ℕ) → eqb (suc r) 0 ≡ false
+not-zero r = ne-eqb (suc r) 0 (λ x. omega (arith, x))
+
+module _ {k w h : ℕ} {f : List ℕ} (list : List Node) {work w₁ : List ℕ} where
+  -- such a list can be filled: a refused list has no entries
+  pub fillable : (r count : ℕ) → Started k w h f (length list) work w₁ r count → Fillable (length f) count w₁ list
+  fillable zero count s = record { room = λ _. s .tree-stands refl .room; few = s .tree-stands refl .facts .few-nodes; places = s .fits }
+  fillable (suc r) count s =
+      let z : count ≡ 0 = s .counted ∙ rw (not-zero r) in
+      record { room = λ l. absurd (omega (arith, z, l)); few = omega (arith, z); places = s .fits }
+
+  -- the work space may be zeroed
+  pub endable : (r count : ℕ) → Started k w h f (length list) work w₁ r count → r ≡ 0 → Room w₁ (length f)
+  endable r count s z = s .tree-stands z .room
+
+  -- the list that was filled, and the work space that was zeroed
+  pub entries-listed : (r count : ℕ) {list′ : List Node} {w₂ : List ℕ} → Started k w h f (length list) work w₁ r count
+      → list′ ≡ overNodes (table count (standing (length f) w₁)) list → w₂ ≡ pick (eqb r 0) (replicate (8 * length f) 0 ++ drop (8 * length f) w₁) w₁
+      → EntriesListed k w h f list list′ work w₂ r count
+  entries-listed zero count s e c = record {
+    number = s .number;
+    counted = s .counted;
+    nodes = e ∙ ap (λ (xs : List Node). overNodes xs list) (standing-entries (s .tree-stands refl));
+    space = cleared-space (s .pixels refl) (s .tree-stands refl .frame) c;
+  }
+  entries-listed (suc r) count {list′} {w₂} s e c =
+      let z : count ≡ 0 = s .counted ∙ rw (not-zero r) in
+      record {
+        number = s .number;
+        counted = s .counted;
+        nodes = rw (not-zero r) (e ∙ rw z (filled-none (standing (length f) w₁) list));
+        space = (c ∙ rw (not-zero r)) ∙ s .stopped (λ x. omega (arith, x));
+      }

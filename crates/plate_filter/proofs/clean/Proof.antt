@@ -1,0 +1,77 @@
+-- `plate_filter::clean` meets its contract.
+use mathlib.Core.Path.{sym, _∙_}
+use Prim.Native.Nat.{_≤_}
+use native.Mathlib.Omega.{arith}
+use borrow.Author.Needs.{needs}
+use denote.Ref.{now}
+use lib.ListN.{length}
+use Rattle.plate_filter.proofs.clean.Statement.{statement}
+use Rattle.plate_filter.proofs.clean.Tie as tie
+use Rattle.work_columns.proofs.Columns.{before, frame-trans}
+use Rattle.plate_refusals.proofs.Refusals.{Cleanable, clean-none, plate-later}
+use Rattle.plate_filter.proofs.Results.{answered, answered-refused, cut-answer, cut-writable, plate-tree-parents}
+
+clean-refusal-requires : tie.Need-clean-refusal-requires
+clean-refusal-requires c κs = search needs
+
+returns : tie.Need-returns
+returns c = answered-refused (c .before .clean-refusal .ensures) (c .if1 .taken)
+
+-- what the sizes say, where nothing is refused
+sized : (c : tie.Else1)
+    → let s = c .before .before .before .before .before .args in
+    Cleanable (s .connectivity) (s .width) (s .height) (s .limit) (length (now (s .image))) (length (now (s .out))) (length (now (s .work)))
+sized c =
+    let s = c .before .before .before .before .before .args in
+    clean-none (s .connectivity) (s .width) (s .height) (s .limit) (length (now (s .image))) (length (now (s .out))) (length (now (s .work)))
+    (sym (c .before .clean-refusal .ensures) ∙ c .if1 .left)
+
+limit-fits : (c : tie.Else1) → let s = c .before .before .before .before .before .args in s .limit ≤ length (now (s .image))
+limit-fits c = let z = sized c in omega (arith, z .limit-high, z .taken .long)
+
+plate-tree-requires : tie.Need-plate-tree-requires
+plate-tree-requires c κs =
+    let s = c .before .before .before .before .before .before .args in
+    let z = sized (c .before) in
+    record { taken = plate-later (s .connectivity) (s .width) (s .height) (length (now (s .image))) 0 (z .taken); room = z .space }
+
+cut-values-requires : tie.Need-cut-values-requires
+cut-values-requires c κs = plate-tree-parents (c .before .before .before .plate-tree .ensures)
+
+deliver-requires : tie.Need-deliver-requires
+deliver-requires c κs =
+    let t = c .before .before .before .before in
+    let z = sized (t .before .before .before .before .before .before) in (
+      cut-writable (t .before .before .before .before .plate-tree .ensures) (limit-fits (t .before .before .before .before .before .before)) (t .cut-values .ensures),
+      omega (arith, z .room, z .taken .long),
+    )
+
+same-length : tie.Need-same-length
+same-length c = search needs
+
+same-length-2 : tie.Need-same-length-2
+same-length-2 c = search needs
+
+returns-2 : tie.Need-returns-2
+returns-2 c =
+    let d = c .before .before .before .before in
+    let t = d .before .before .before .before .before in
+    let p = t .before .before .before .before in
+    let e = p .before .before in
+    answered (e .before .clean-refusal .ensures) (e .if1 .left) (sized e .taken .long)
+    (frame-trans (p .plate-tree .ensures .frame) (t .cut-values .ensures .valued .frame))
+    (d .deliver .ensures)
+    (cut-answer (p .plate-tree .ensures) (limit-fits e) (t .cut-values .ensures))
+
+pub clean-spec : {M : Type 1} → statement M
+clean-spec =
+    tie.close
+    (tie.spec
+    clean-refusal-requires
+    returns
+    plate-tree-requires
+    cut-values-requires
+    deliver-requires
+    same-length
+    same-length-2
+    returns-2)

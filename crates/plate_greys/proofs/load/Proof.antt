@@ -1,0 +1,69 @@
+-- `plate_greys::load` meets its contract. The invariant: the first p greys are copied in.
+use Prim.Native.Nat.{_-_}
+use native.Mathlib.Omega.{arith}
+use Rattle.plate_greys.proofs.load.Statement.{statement}
+use Rattle.plate_greys.proofs.load.Tie as tie
+use Rattle.work_columns.proofs.Columns.{before, frame-room}
+use Rattle.plate_greys.specs.View.{view}
+use Rattle.plate_greys.proofs.Views.{Loading, loading-done, loading-first, loading-more}
+
+abbrev Inv-loop : tie.InvT-loop
+Inv-loop image negated work₀ n p₀ work p = Loading negated image work₀ work p
+
+abbrev μ-loop : tie.MeasureT-loop
+μ-loop image negated work₀ n p₀ work p = n - p
+
+loop-holds : tie.Need-loop-holds Inv-loop μ-loop
+loop-holds c = loading-first
+
+shared-slice-read-view : tie.Need-shared-slice-read-view Inv-loop μ-loop
+shared-slice-read-view c = omega arith
+
+cast-view : tie.Need-cast-view Inv-loop μ-loop
+cast-view c = omega (arith, c .shared-slice-known2 .given (c .before .before .loop .p))
+
+view-requires : tie.Need-view-requires Inv-loop μ-loop
+view-requires c κs = omega (arith, c .shared-slice-known2 .given (c .before .before .loop .p))
+
+put-requires : tie.Need-put-requires Inv-loop μ-loop
+put-requires c κs =
+    let l = c .before .before .before .before in
+    (frame-room (l .before .before .before .pre) (l .loop .inv .frame), (omega arith, (omega arith, omega arith)))
+
+add-p : tie.Need-add-p Inv-loop μ-loop
+add-p c = omega arith
+
+loop-less : tie.Need-loop-less Inv-loop μ-loop
+loop-less c = omega arith
+
+loop-again : tie.Need-loop-again Inv-loop μ-loop
+loop-again c =
+    let l = c .before .before .before .before .before .before .before in
+    loading-more (l .loop .inv) (c .before .before .before .before .before .before .loop-test .taken)
+    (c .before .before .before .before .view .ensures .0)
+    (c .before .before .put .ensures)
+
+same-length : tie.Need-same-length Inv-loop μ-loop
+same-length c = c .before .loop .inv .frame .len
+
+returns : tie.Need-returns Inv-loop μ-loop
+returns c =
+    let s = c .before .before .before in
+    loading-done (c .before .loop .inv) (c .loop-test .left) (λ p. omega (arith, s .shared-slice-known .given p))
+
+pub load-spec : {M : Type 1} → statement M
+load-spec =
+    tie.close
+    (tie.spec
+    Inv-loop
+    μ-loop
+    loop-holds
+    shared-slice-read-view
+    cast-view
+    view-requires
+    put-requires
+    add-p
+    loop-less
+    loop-again
+    same-length
+    returns)

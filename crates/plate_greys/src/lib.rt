@@ -1,0 +1,30 @@
+// A plate in the work space: its greys, or those of its negative, are copied in, and its component tree is built.
+ghost use mathlib.Core.Path.{_≡_};
+ghost use Prim.Native.Nat.{_≤_};
+ghost use lib.ListN.{length};
+ghost use Rattle.meaning.specs.Plate.{greatestGrey};
+ghost use Rattle.work_columns.specs.Columns.{Room};
+ghost use Rattle.plate_greys.specs.View.{viewed};
+ghost use Rattle.plate_greys.specs.Tree.{Loaded};
+
+// A grey, or its negative.
+pub fn view(negated: bool, grey: usize) -> usize
+    requires { ⌜ grey ≤ greatestGrey ⌝ }
+    ensures { λ r. ⌜ (r ≡ viewed negated grey) × (r ≤ greatestGrey) ⌝ }
+{
+    if negated { 255 - grey } else { grey }
+}
+
+// Copies the greys of a plate, or of its negative, into the work space.
+pub fn load(image: &[u8], negated: bool, work: &mut [u32])
+    requires { ⌜ Room (now work) (length (now image)) ⌝ }
+    ensures { λ _. ⌜ Loaded negated (now (image .entry)) (now (work .entry)) (now (work .exit)) ⌝ }
+{
+    let n = image.len();
+    let mut p: usize = 0;
+    while p < n {
+        let g = view(negated, image[p] as usize);
+        work_columns::put(work, n, 0, p, g);
+        p += 1;
+    }
+}

@@ -1,0 +1,16 @@
+-- `plate_refusals::connectivity_fits` meets its contract.
+use borrow.Author.Tests.{eq-eqb, ne-eqb}
+use Rattle.plate_refusals.proofs.connectivity_fits.Statement.{statement}
+use Rattle.plate_refusals.proofs.connectivity_fits.Tie as tie
+use Rattle.meaning.specs.Plate.{connectivityFits}
+
+returns : tie.Need-returns
+unfolding connectivityFits
+returns c = rw (eq-eqb (c .before .args .connectivity) 4 (c .if1 .taken))
+
+returns-2 : tie.Need-returns-2
+unfolding connectivityFits
+returns-2 c = rw (ne-eqb (c .before .args .connectivity) 4 (c .if1 .left))
+
+pub connectivity-fits-spec : {M : Type 1} → statement M
+connectivity-fits-spec = tie.close (tie.spec returns returns-2)

@@ -1,0 +1,81 @@
+-- `record_fields::same` meets its contract. The invariant: the bytes begin with the first i fields.
+use Prim.Native.Nat.{_+_, _*_, _-_}
+use native.Mathlib.Omega.{arith}
+use borrow.Author.Needs.{needs}
+use denote.Ref.{now}
+use Rattle.record_fields.proofs.same.Statement.{statement}
+use Rattle.record_fields.proofs.same.Tie as tie
+use Rattle.record_fields.proofs.Standing.{standing-spelt}
+use Rattle.record_fields.proofs.Loops.{Comparing, comparing-first, comparing-more, comparing-differs, comparing-done}
+
+abbrev Inv-loop : tie.InvT-loop
+Inv-loop w n width height connectivity count s total at₀ i₀ at i = Comparing connectivity width height n w count s i at
+
+abbrev μ-loop : tie.MeasureT-loop
+μ-loop w n width height connectivity count s total at₀ i₀ at i = 3 * count + 3 + n - i
+
+mul-total : tie.Need-mul-total Inv-loop μ-loop
+mul-total c = let s = standing-spelt (c .before .before .args .n) (c .before .before .pre) in omega arith
+
+add-total : tie.Need-add-total Inv-loop μ-loop
+add-total c = let s = standing-spelt (c .before .before .args .n) (c .before .before .pre) in omega arith
+
+add-total-2 : tie.Need-add-total-2 Inv-loop μ-loop
+add-total-2 c = let s = standing-spelt (c .before .before .args .n) (c .before .before .pre) in omega arith
+
+loop-holds : tie.Need-loop-holds Inv-loop μ-loop
+loop-holds c = let s = c .before .before in comparing-first (s .args .n) (now (s .args .s)) (s .pre)
+
+field-at-requires : tie.Need-field-at-requires Inv-loop μ-loop
+field-at-requires c κs = (c .before .loop .inv .spelt, omega arith)
+
+same-field-requires : tie.Need-same-field-requires Inv-loop μ-loop
+same-field-requires c κs = tt
+
+enum-known-c : tie.Need-enum-known-c Inv-loop μ-loop
+enum-known-c c = search needs
+
+enum-told : tie.Need-enum-told Inv-loop μ-loop
+enum-told c = search needs
+
+returns : tie.Need-returns Inv-loop μ-loop
+returns c =
+    let f = c .before .before in
+    let t = f .before .before in
+    comparing-differs (t .before .loop .inv) (omega arith) (f .before .field-at .ensures) (f .same-field .ensures) (c .enum-told .given .1)
+    (t .before .before .before .before .pre)
+
+add-i : tie.Need-add-i Inv-loop μ-loop
+add-i c = omega arith
+
+loop-less : tie.Need-loop-less Inv-loop μ-loop
+loop-less c = omega arith
+
+loop-again : tie.Need-loop-again Inv-loop μ-loop
+loop-again c =
+    let f = c .before .before .before in
+    let t = f .before .before in
+    comparing-more (t .before .loop .inv) (omega arith) (f .before .field-at .ensures) (f .same-field .ensures) (c .before .c .given .1)
+
+returns-2 : tie.Need-returns-2 Inv-loop μ-loop
+returns-2 c = comparing-done (c .before .loop .inv) (omega arith) (c .before .before .before .before .pre)
+
+pub same-spec : {M : Type 1} → statement M
+same-spec =
+    tie.close
+    (tie.spec
+    Inv-loop
+    μ-loop
+    mul-total
+    add-total
+    add-total-2
+    loop-holds
+    field-at-requires
+    same-field-requires
+    enum-known-c
+    enum-told
+    returns
+    add-i
+    loop-less
+    loop-again
+    returns-2)

@@ -1,0 +1,113 @@
+-- The record's first four fields one after another: what is known after each, and each refusal up to 6.
+use mathlib.Core.Path.{_≡_, refl, sym, ap, _∙_}
+use mathlib.Core.Bool.{true, false, not}
+use mathlib.Core.List.{List}
+use Prim.Native.Nat.{ℕ, _-_, _*_, _≤_, _<_}
+use native.Mathlib.Nat.{mul-le-mul, lt-of-le-of-lt}
+use borrow.Author.Tests.{lt-ltb, le-ltb}
+use lib.Dec.{ltb, lit<}
+use Rattle.record_parse.specs.declared.Parse.{Parse}
+use Rattle.record_parse.specs.declared.Parse.the-variants.{Early, Late, Plate}
+use Rattle.record_parse.specs.declared.Step.{Step}
+use Rattle.record_parse.specs.declared.Step.the-variants.{Next, Refused}
+use Rattle.meaning.specs.Plate.{connectivityFits, grey, maxPixels, maxSide}
+use Rattle.meaning.specs.Sets.{pick}
+use Rattle.theory_lists.proofs.Lists.{getD-table, length-table}
+use Rattle.work_columns.specs.Columns.{Room, col}
+use Rattle.work_columns.specs.Layout.{GREY}
+use Rattle.record_varint.specs.Field.{fieldAt, fieldBound, refused}
+use Rattle.record_parse.specs.Parse.{Parsed, ParsedWork, early, fromConnectivity, fromCount, fromHeight, fromRoot, late, parse, plate}
+use Rattle.record_parse.specs.Steps.{TreeRead, greysIn, outcome, treeParsed}
+use Rattle.record_parse.proofs.Fields.{Took}
+
+-- ---- after each field; work: the length of the work space
+
+pub record AfterWidth (s : List ℕ) (work w at : ℕ) : Type 0 where
+  pub parsed : parse s work ≡ fromHeight s work w at
+  pub wide : w ≤ maxSide
+
+pub record AfterHeight (s : List ℕ) (work w h at : ℕ) : Type 0 where
+  pub parsed : parse s work ≡ pick (ltb maxPixels (w * h)) (early 22) (fromConnectivity s work w h at)
+  pub fits : w * h < fieldBound
+
+pub record AfterConnectivity (s : List ℕ) (work w h k at : ℕ) : Type 0 where
+  pub parsed : parse s work ≡ pick (not (connectivityFits k)) (early 22) (fromCount s work k w h at)
+  pub pixels : w * h ≤ maxPixels
+
+pub record AfterCount (s : List ℕ) (work w h k count at : ℕ) : Type 0 where
+  pub parsed : parse s work ≡ pick (ltb work (8 * (w * h))) (early 6) (fromRoot s k w h count at)
+  pub pixels : w * h ≤ maxPixels
+  pub some : 1 ≤ count
+  pub most : count ≤ w * h
+
+pub width-stops : (s : List ℕ) (work : ℕ) {number : ℕ} → fieldAt s 0 1 maxSide ≡ refused number → parse s work ≡ early number
+unfolding parse
+width-stops s work e = rw e
+
+module _ {s : List ℕ} {work : ℕ} where
+  pub after-width : {w at : ℕ} → Took s 0 1 maxSide w at → AfterWidth s work w at
+  unfolding parse
+  after-width a = record { parsed = rw (a .read); wide = a .high }
+
+  module _ {w at : ℕ} (t : AfterWidth s work w at) where
+    pub after-height : {h next : ℕ} → Took s at 1 maxSide h next → AfterHeight s work w h next
+    after-height a = record { parsed = t .parsed ∙ rw (a .read); fits = lt-of-le-of-lt (mul-le-mul (t .wide) (a .high)) (lit< tt) }
+
+    pub height-stops : {number : ℕ} → fieldAt s at 1 maxSide ≡ refused number → parse s work ≡ early number
+    height-stops e = t .parsed ∙ rw e
+
+  module _ {w h at : ℕ} (t : AfterHeight s work w h at) where
+    -- a product beyond the grid
+    pub too-large : maxPixels < w * h → parse s work ≡ early 22
+    too-large l = t .parsed ∙ rw (lt-ltb maxPixels (w * h) l)
+
+    module _ (fits : w * h ≤ maxPixels) where
+      pub after-connectivity : {k next : ℕ} → Took s at 0 (fieldBound - 1) k next → AfterConnectivity s work w h k next
+      after-connectivity a = record { parsed = t .parsed ∙ rw (le-ltb maxPixels (w * h) fits, a .read); pixels = fits }
+
+      pub connectivity-stops : {number : ℕ} → fieldAt s at 0 (fieldBound - 1) ≡ refused number → parse s work ≡ early number
+      connectivity-stops e = t .parsed ∙ rw (le-ltb maxPixels (w * h) fits, e)
+
+  module _ {w h k at : ℕ} (t : AfterConnectivity s work w h k at) where
+    -- no connectivity
+    pub no-connectivity : connectivityFits k ≡ false → parse s work ≡ early 22
+    no-connectivity e = t .parsed ∙ rw e
+
+    module _ (kind : connectivityFits k ≡ true) where
+      pub after-count : {count next : ℕ} → Took s at 1 (w * h) count next → AfterCount s work w h k count next
+      after-count a = record { parsed = t .parsed ∙ rw (kind, a .read); pixels = t .pixels; some = a .low; most = a .high }
+
+      pub count-stops : {number : ℕ} → fieldAt s at 1 (w * h) ≡ refused number → parse s work ≡ early number
+      count-stops e = t .parsed ∙ rw (kind, e)
+
+  module _ {w h k count at : ℕ} (t : AfterCount s work w h k count at) where
+    -- work space shorter than 8 × pixels
+    pub too-short : work < 8 * (w * h) → parse s work ≡ early 6
+    too-short l = t .parsed ∙ rw (lt-ltb work (8 * (w * h)) l)
+
+    pub begun : 8 * (w * h) ≤ work → parse s work ≡ fromRoot s k w h count at
+    begun l = t .parsed ∙ rw (le-ltb work (8 * (w * h)) l)
+
+-- ---- the answer, and the work space after it
+
+abbrev pub Answered : Parsed → List ℕ → List ℕ → Parse → Type 0
+Answered p work work′ r = (r ≡ outcome p) × ParsedWork p work work′
+
+pub early-answer : (p : Parsed) (work : List ℕ) {number : ℕ} → p ≡ early number → Answered p work work (Early number)
+early-answer p work e = rw e (refl, refl)
+
+module _ (p : Parsed) (k w h : ℕ) {s : List ℕ} {at : ℕ} {work work′ : List ℕ} {count : ℕ} {r : Step} (room : Room work (w * h)) (t : TreeRead s at (w * h) work work′ count r) (e : p ≡ fromRoot s k w h count at) where
+  parsed : p ≡ treeParsed r k w h (greysIn (w * h) work′)
+  parsed = e ∙ t .rest k w h refl
+
+  pub late-answer : {number : ℕ} → r ≡ Refused number → Answered p work work′ (Late number (w * h))
+  late-answer {number} f =
+      let is : p ≡ late number (w * h) = parsed ∙ ap (λ (x : Step). treeParsed x k w h (greysIn (w * h) work′)) f in
+      rw is (refl, (room, t .frame))
+
+  pub plate-answer : {next : ℕ} → r ≡ Next next → Answered p work work′ (Plate w h k)
+  plate-answer f =
+      let is : p ≡ plate k w h (greysIn (w * h) work′) = parsed ∙ ap (λ (x : Step). treeParsed x k w h (greysIn (w * h) work′)) f in
+      let grey-is : (q : ℕ) → q < w * h → col GREY (w * h) work′ q ≡ grey (greysIn (w * h) work′) q =
+      λ q l. sym (getD-table (w * h) (col GREY (w * h) work′) q 0 l) in
+      rw is (refl, ((room, t .frame), (length-table (w * h) (col GREY (w * h) work′), grey-is)))

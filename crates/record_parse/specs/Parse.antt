@@ -1,0 +1,130 @@
+-- The fields of a record taken one after another: SPECIFICATION 6 and 9 up to 23. `readOf` adds 24.
+use mathlib.Core.Path.{_≡_}
+use mathlib.Core.Bool.{Bool, true, false, not, _&&_}
+use mathlib.Core.List.{List, [], _∷_, _++_}
+use Prim.Native.Nat.{ℕ, zero, suc, _+_, _-_, _*_, _<_}
+use lib.Dec.{ltb, eqb}
+use lib.ListN.{length}
+use Rattle.meaning.specs.Sets.{pick, nth}
+use Rattle.meaning.specs.Plate.{greatestGrey, maxSide, maxPixels, connectivityFits, grey}
+use Rattle.meaning.specs.Record.{recordOf}
+use Rattle.record_varint.specs.Field.{Reading, accepted, refused, fieldAt, fieldBound}
+use Rattle.work_columns.specs.Columns.{col, Frame, Room}
+use Rattle.work_columns.specs.Layout.{GREY}
+
+-- ---- several fields
+
+-- the numbers that some fields spell and the position after them, or the first refusal
+pub data Values : Type 0 where
+  good : List ℕ → ℕ → Values
+  bad : ℕ → Values
+
+abbrev pub onValue : Reading → (ℕ → ℕ → Values) → Values
+onValue (accepted v next) go = go v next
+onValue (refused number) go = bad number
+
+abbrev pub more : ℕ → Values → Values
+more v (good vs next) = good (v ∷ vs) next
+more v (bad number) = bad number
+
+module _ (s : List ℕ) (pixels : ℕ) where
+  -- `left` nodes behind those whose levels are known: the step back to the parent's number (1 to the own number), the rise above the parent's
+  -- level (1 to the greatest grey minus that level), the area (1 to the pixels). It gives the levels of all nodes
+  unfoldable pub levelsFrom : ℕ → List ℕ → ℕ → Values
+  levelsFrom zero levels at = good levels at
+  levelsFrom (suc left) levels at =
+      onValue (fieldAt s at 1 (length levels)) λ back at₁.
+      onValue (fieldAt s at₁ 1 (greatestGrey - nth levels (length levels - back))) λ rise at₂.
+      onValue (fieldAt s at₂ 1 pixels) λ area at₃.
+      levelsFrom left (levels ++ ((nth levels (length levels - back) + rise) ∷ [])) at₃
+
+  -- the own nodes of `left` pixels (0 to the count minus 1). It gives the pixels' greys, the levels of their own nodes
+  unfoldable pub greysFrom : List ℕ → ℕ → ℕ → Values
+  greysFrom levels zero at = good [] at
+  greysFrom levels (suc left) at =
+      onValue (fieldAt s at 0 (length levels - 1)) λ own next. more (nth levels own) (greysFrom levels left next)
+
+-- ---- the whole record
+
+-- what the bytes spell, or a refusal: `early` by 6 or ahead of it, so that no work has begun; `late` behind it, with the pixels
+pub data Parsed : Type 0 where
+  early : (number : ℕ) → Parsed
+  late : (number pixels : ℕ) → Parsed
+  plate : (k w h : ℕ) (f : List ℕ) → Parsed
+
+abbrev pub onField : Reading → (ℕ → Parsed) → (ℕ → ℕ → Parsed) → Parsed
+onField (accepted v next) refusal go = go v next
+onField (refused number) refusal go = refusal number
+
+abbrev pub onValues : Values → (ℕ → Parsed) → (List ℕ → ℕ → Parsed) → Parsed
+onValues (good vs next) refusal go = go vs next
+onValues (bad number) refusal go = refusal number
+
+-- late refusals of a record of so many pixels
+abbrev pub lateOf : ℕ → ℕ → Parsed
+lateOf pixels number = late number pixels
+
+module _ (s : List ℕ) where
+  -- the greys, and then the end: 23 where bytes are left over
+  abbrev pub fromOwn : (k w h : ℕ) (levels : List ℕ) (at : ℕ) → Parsed
+  fromOwn k w h levels at =
+      onValues (greysFrom s (w * h) levels (w * h) at) (lateOf (w * h)) λ f next. pick (ltb next (length s)) (late 23 (w * h)) (plate k w h f)
+
+  -- the nodes behind the root
+  abbrev pub fromNodes : (k w h count level at : ℕ) → Parsed
+  fromNodes k w h count level at = onValues (levelsFrom s (w * h) (count - 1) (level ∷ []) at) (lateOf (w * h)) (fromOwn k w h)
+
+  -- root level (0 to the greatest grey), root area (1 to the pixels)
+  abbrev pub fromRoot : (k w h count at : ℕ) → Parsed
+  fromRoot k w h count at =
+      onField (fieldAt s at 0 greatestGrey) (lateOf (w * h)) λ level at₁.
+      onField (fieldAt s at₁ 1 (w * h)) (lateOf (w * h)) λ area at₂. fromNodes k w h count level at₂
+
+  -- node count (1 to the pixels); then 6, work space shorter than 8 × pixels
+  abbrev pub fromCount : (work k w h at : ℕ) → Parsed
+  fromCount work k w h at =
+      onField (fieldAt s at 1 (w * h)) early λ count next. pick (ltb work (8 * (w * h))) (early 6) (fromRoot k w h count next)
+
+  -- connectivity, 22 where it is none
+  abbrev pub fromConnectivity : (work w h at : ℕ) → Parsed
+  fromConnectivity work w h at =
+      onField (fieldAt s at 0 (fieldBound - 1)) early λ k next. pick (not (connectivityFits k)) (early 22) (fromCount work k w h next)
+
+  -- height; a product beyond the grid counts here
+  abbrev pub fromHeight : (work w at : ℕ) → Parsed
+  fromHeight work w at =
+      onField (fieldAt s at 1 maxSide) early λ h next. pick (ltb maxPixels (w * h)) (early 22) (fromConnectivity work w h next)
+
+  -- all fields, width first; work: the length of the work space
+  unfoldable pub parse : ℕ → Parsed
+  unfolding levelsFrom greysFrom connectivityFits
+  parse work = onField (fieldAt s 0 1 maxSide) early (fromHeight work)
+
+-- ---- and 24
+
+-- two lists of bytes are the same
+unfoldable pub sameBytes : List ℕ → List ℕ → Bool
+sameBytes [] [] = true
+sameBytes [] (y ∷ ys) = false
+sameBytes (x ∷ xs) [] = false
+sameBytes (x ∷ xs) (y ∷ ys) = eqb x y && sameBytes xs ys
+
+-- 24 the bytes differ from the record of the plate that they spell
+abbrev pub compared : List ℕ → Parsed → Parsed
+compared s (early number) = early number
+compared s (late number pixels) = late number pixels
+compared s (plate k w h f) = pick (sameBytes s (recordOf k w h f)) (plate k w h f) (late 24 (w * h))
+
+-- what reading the bytes s with so much work space finds, up to 24
+unfoldable pub readOf : List ℕ → ℕ → Parsed
+unfolding parse recordOf sameBytes
+readOf s work = compared s (parse s work)
+
+-- ---- the work space after parsing
+
+-- untouched by 6 and ahead of it; else only the eight columns have changed, and the plate's greys stand in GREY
+abbrev pub ParsedWork : Parsed → List ℕ → List ℕ → Type 0
+ParsedWork (early number) work work′ = work′ ≡ work
+ParsedWork (late number pixels) work work′ = Room work pixels × Frame pixels work work′
+ParsedWork (plate k w h f) work work′ =
+    (Room work (w * h) × Frame (w * h) work work′) × ((length f ≡ w * h) × ((p : ℕ) → p < w * h → col GREY (w * h) work′ p ≡ grey f p))

@@ -1,0 +1,160 @@
+// The fields of a record taken one after another, each with its refusal, up to 23. The greys that they spell go into the work space.
+ghost use mathlib.Core.Path.{_≡_};
+ghost use Prim.Native.Nat.{_+_, _*_, _<_, _≤_};
+ghost use lib.ListN.{length};
+ghost use Rattle.work_columns.specs.Columns.{Room};
+ghost use Rattle.record_parse.specs.Parse.{parse, ParsedWork};
+ghost use Rattle.record_parse.specs.Steps.{outcome, Known, NodeRead, NodesRead, GreysRead, TreeRead};
+use record_varint::Field;
+
+// What a record spells. `outcome` says it in the specification's terms.
+pub enum Parse {
+    // Refused by 6 or ahead of it, so that no work has begun: the specification's number.
+    Early(u32),
+    // Refused behind 6: the specification's number, and the pixels.
+    Late(u32, usize),
+    // A plate: width, height, connectivity.
+    Plate(u32, u32, u32),
+}
+
+// What reading some fields finds. `onStep` says it in the specification's terms.
+pub enum Step {
+    // The position after them.
+    Next(usize),
+    // the specification's number.
+    Refused(u32),
+}
+
+// The column of the greys, by pixel.
+const GREY: usize = 0;
+
+// The column of the levels, by node.
+const LEVEL: usize = 3;
+
+// Reads node i, behind the root, and stores its level.
+fn read_node(s: &[u8], at: usize, work: &mut [u32], n: usize, i: usize) -> Step
+    requires { ⌜ Known n (now work) i × (i < n) ⌝ }
+    ensures { λ r. ⌜ NodeRead (now (s .entry)) at n (now (work .entry)) (now (work .exit)) i r ⌝ }
+{
+    let f1 = record_varint::read_field(s, at, 1, i as u32);
+    let Field::Value(back, at1) = f1 else {
+        return Step::Refused(record_varint::refusal(f1));
+    };
+    let level = work_columns::get(work, n, LEVEL, i - back as usize);
+    let f2 = record_varint::read_field(s, at1, 1, (255 - level) as u32);
+    let Field::Value(rise, at2) = f2 else {
+        return Step::Refused(record_varint::refusal(f2));
+    };
+    let f3 = record_varint::read_field(s, at2, 1, n as u32);
+    let Field::Value(_, at3) = f3 else {
+        return Step::Refused(record_varint::refusal(f3));
+    };
+    work_columns::put(work, n, LEVEL, i, level + rise as usize);
+    Step::Next(at3)
+}
+
+// Reads the nodes behind the root, whose level is stored, and stores their levels.
+fn read_nodes(s: &[u8], start: usize, work: &mut [u32], n: usize, count: usize) -> Step
+    requires { ⌜ Known n (now work) 1 × ((1 ≤ count) × (count ≤ n)) ⌝ }
+    ensures { λ r. ⌜ NodesRead (now (s .entry)) start n (now (work .entry)) (now (work .exit)) count r ⌝ }
+{
+    let mut i: usize = 1;
+    let mut at = start;
+    while i < count {
+        let node = read_node(s, at, work, n, i);
+        let Step::Next(next) = node else {
+            return node;
+        };
+        at = next;
+        i += 1;
+    }
+    Step::Next(at)
+}
+
+// Reads the pixels' own nodes, whose levels are stored, and stores the greys.
+fn read_greys(s: &[u8], start: usize, work: &mut [u32], n: usize, count: usize) -> Step
+    requires { ⌜ Known n (now work) count ⌝ }
+    ensures { λ r. ⌜ GreysRead (now (s .entry)) start n (now (work .entry)) (now (work .exit)) count r ⌝ }
+{
+    let last = (count - 1) as u32;
+    let mut p: usize = 0;
+    let mut at = start;
+    while p < n {
+        let f = record_varint::read_field(s, at, 0, last);
+        let Field::Value(own, next) = f else {
+            return Step::Refused(record_varint::refusal(f));
+        };
+        let level = work_columns::get(work, n, LEVEL, own as usize);
+        work_columns::put(work, n, GREY, p, level);
+        at = next;
+        p += 1;
+    }
+    Step::Next(at)
+}
+
+// Reads what follows the node count: root level, root area, the other nodes, the own nodes, and the end.
+fn read_tree(s: &[u8], at: usize, work: &mut [u32], n: usize, count: usize) -> Step
+    requires { ⌜ Room (now work) n × ((1 ≤ count) × (count ≤ n)) ⌝ }
+    ensures { λ r. ⌜ TreeRead (now (s .entry)) at n (now (work .entry)) (now (work .exit)) count r ⌝ }
+{
+    let f1 = record_varint::read_field(s, at, 0, 255);
+    let Field::Value(level, at1) = f1 else {
+        return Step::Refused(record_varint::refusal(f1));
+    };
+    let f2 = record_varint::read_field(s, at1, 1, n as u32);
+    let Field::Value(_, at2) = f2 else {
+        return Step::Refused(record_varint::refusal(f2));
+    };
+    work_columns::put(work, n, LEVEL, 0, level as usize);
+    let nodes = read_nodes(s, at2, work, n, count);
+    let Step::Next(at3) = nodes else {
+        return nodes;
+    };
+    let greys = read_greys(s, at3, work, n, count);
+    let Step::Next(at4) = greys else {
+        return greys;
+    };
+    if at4 < s.len() {
+        return Step::Refused(23);
+    }
+    Step::Next(at4)
+}
+
+// Parses a record, up to refusal 23. The greys of the plate stand in the work space's first column.
+pub fn parse_record(s: &[u8], work: &mut [u32]) -> Parse
+    ensures { λ r. ⌜ r ≡ outcome (parse (now (s .entry)) (length (now (work .entry)))) ⌝ }
+    ensures { λ _. ⌜ ParsedWork (parse (now (s .entry)) (length (now (work .entry)))) (now (work .entry)) (now (work .exit)) ⌝ }
+{
+    let f1 = record_varint::read_field(s, 0, 1, 32768);
+    let Field::Value(width, at1) = f1 else {
+        return Parse::Early(record_varint::refusal(f1));
+    };
+    let f2 = record_varint::read_field(s, at1, 1, 32768);
+    let Field::Value(height, at2) = f2 else {
+        return Parse::Early(record_varint::refusal(f2));
+    };
+    let pixels = width * height;
+    if 16777216 < pixels {
+        return Parse::Early(22);
+    }
+    let f3 = record_varint::read_field(s, at2, 0, 4294967295);
+    let Field::Value(connectivity, at3) = f3 else {
+        return Parse::Early(record_varint::refusal(f3));
+    };
+    if !plate_refusals::connectivity_fits(connectivity) {
+        return Parse::Early(22);
+    }
+    let f4 = record_varint::read_field(s, at3, 1, pixels);
+    let Field::Value(count, at4) = f4 else {
+        return Parse::Early(record_varint::refusal(f4));
+    };
+    let n = pixels as usize;
+    if work.len() < 8 * n {
+        return Parse::Early(6);
+    }
+    let tree = read_tree(s, at4, work, n, count as usize);
+    if let Step::Refused(number) = tree {
+        return Parse::Late(number, n);
+    }
+    Parse::Plate(width, height, connectivity)
+}

@@ -1,0 +1,171 @@
+-- The other direction of the round trip: bytes that reading accepts are the record of a plate, and every refusal has a number other than 0.
+use mathlib.Core.Path.{_≡_, refl, _∙_}
+use mathlib.Core.Bool.{Bool, true, false, not, _&&_}
+use mathlib.Core.List.{List, [], _∷_, _++_}
+use Prim.Native.Nat.{ℕ, zero, suc, _+_, _-_, _*_, _≤_, _<_}
+use native.Mathlib.Omega.{arith}
+use lib.Dec.{eqb, leb, ltb}
+use lib.ListN.{length, drop}
+use borrow.Author.Tests.{eqb-true}
+use Rattle.meaning.specs.Plate.{Plate, connectivityFits, greatestGrey, maxPixels, maxSide}
+use Rattle.meaning.specs.Record.{recordOf, varint}
+use Rattle.meaning.specs.Sets.{nth, pick}
+use Rattle.theory_lists.proofs.Tests.{both-true, passes}
+use Rattle.record_varint.specs.Field.{Reading, accepted, fieldAt, fieldBound, fieldOf, lead, refused, starts, value}
+use Rattle.record_parse.specs.Parse.{Parsed, Values, bad, compared, early, fromConnectivity, fromCount, fromHeight, fromNodes, fromOwn, fromRoot, good, greysFrom, late, lateOf, levelsFrom, more, onField, onValue, onValues, parse, plate, readOf, sameBytes}
+use Rattle.record_parse.proofs.Sound.{parse-plate}
+
+-- ---- a refusal's number is not 0
+
+abbrev pub NumberedField : Reading → Type 0
+NumberedField (accepted v next) = Unit {0}
+NumberedField (refused number) = 0 < number
+
+abbrev pub NumberedValues : Values → Type 0
+NumberedValues (good vs next) = Unit {0}
+NumberedValues (bad number) = 0 < number
+
+abbrev pub Numbered : Parsed → Type 0
+Numbered (early number) = 0 < number
+Numbered (late number pixels) = 0 < number
+Numbered (plate k w h f) = Unit {0}
+
+three-tests : (a b c : Bool) (v next : ℕ) → NumberedField (pick a (refused 20) (pick b (refused 21) (pick c (refused 22) (accepted v next))))
+three-tests true b c v next = omega arith
+three-tests false true c v next = omega arith
+three-tests false false true v next = omega arith
+three-tests false false false v next = tt
+
+field-numbered : (l : List ℕ) (at lo hi : ℕ) → NumberedField (fieldOf l at lo hi)
+unfolding fieldOf
+field-numbered l at lo hi =
+    let v = value l in
+    three-tests (leb (length l) (lead l)) (not (starts (varint v) l && ltb v fieldBound)) (not (leb lo v && leb v hi)) v (at + length (varint v))
+
+value-numbered : (r : Reading) (go : ℕ → ℕ → Values) → NumberedField r → ((v next : ℕ) → NumberedValues (go v next)) → NumberedValues (onValue r go)
+value-numbered (accepted v next) go a b = b v next
+value-numbered (refused number) go a b = a
+
+more-numbered : (v : ℕ) (vs : Values) → NumberedValues vs → NumberedValues (more v vs)
+more-numbered v (good vs next) a = tt
+more-numbered v (bad number) a = a
+
+-- of parsing: the refusal is by early or late
+abbrev Numbering : (ℕ → Parsed) → Type 0
+Numbering refusal = (number : ℕ) → 0 < number → Numbered (refusal number)
+
+on-field : (r : Reading) (refusal : ℕ → Parsed) (go : ℕ → ℕ → Parsed) → Numbering refusal → NumberedField r → ((v next : ℕ) → Numbered (go v next))
+    → Numbered (onField r refusal go)
+on-field (accepted v next) refusal go a b c = c v next
+on-field (refused number) refusal go a b c = a number b
+
+on-values : (vs : Values) (refusal : ℕ → Parsed) (go : List ℕ → ℕ → Parsed) → Numbering refusal → NumberedValues vs
+    → ((ws : List ℕ) (next : ℕ) → Numbered (go ws next)) → Numbered (onValues vs refusal go)
+on-values (good ws next) refusal go a b c = c ws next
+on-values (bad number) refusal go a b c = a number b
+
+on-test : (b : Bool) (p q : Parsed) → Numbered p → Numbered q → Numbered (pick b p q)
+on-test true p q x y = x
+on-test false p q x y = y
+
+module _ (s : List ℕ) where
+  at-field : (at lo hi : ℕ) → NumberedField (fieldAt s at lo hi)
+  at-field at lo hi = field-numbered (drop at s) at lo hi
+
+  levels-numbered : (pixels left : ℕ) (levels : List ℕ) (at : ℕ) → NumberedValues (levelsFrom s pixels left levels at)
+  unfolding levelsFrom
+  levels-numbered pixels zero levels at = tt
+  levels-numbered pixels (suc left) levels at =
+      let level : ℕ → ℕ = λ (back : ℕ). nth levels (length levels - back) in
+      let node : ℕ → ℕ → ℕ → ℕ → Values = λ back rise area at₃. levelsFrom s pixels left (levels ++ ((level back + rise) ∷ [])) at₃ in
+      let sized : ℕ → ℕ → ℕ → Values = λ back rise at₂. onValue (fieldAt s at₂ 1 pixels) (node back rise) in
+      let raised : ℕ → ℕ → Values = λ back at₁. onValue (fieldAt s at₁ 1 (greatestGrey - level back)) (sized back) in
+      value-numbered (fieldAt s at 1 (length levels)) raised (at-field at 1 (length levels)) λ back at₁.
+      value-numbered (fieldAt s at₁ 1 (greatestGrey - level back)) (sized back) (at-field at₁ 1 (greatestGrey - level back)) λ rise at₂.
+      value-numbered (fieldAt s at₂ 1 pixels) (node back rise) (at-field at₂ 1 pixels) λ area at₃.
+      levels-numbered pixels left (levels ++ ((level back + rise) ∷ [])) at₃
+
+  greys-numbered : (pixels : ℕ) (levels : List ℕ) (left at : ℕ) → NumberedValues (greysFrom s pixels levels left at)
+  unfolding greysFrom
+  greys-numbered pixels levels zero at = tt
+  greys-numbered pixels levels (suc left) at =
+      let rest : ℕ → ℕ → Values = λ own next. more (nth levels own) (greysFrom s pixels levels left next) in
+      value-numbered (fieldAt s at 0 (length levels - 1)) rest (at-field at 0 (length levels - 1)) λ own next.
+      more-numbered (nth levels own) (greysFrom s pixels levels left next) (greys-numbered pixels levels left next)
+
+  own-numbered : (k w h : ℕ) (levels : List ℕ) (at : ℕ) → Numbered (fromOwn s k w h levels at)
+  own-numbered k w h levels at =
+      let end : List ℕ → ℕ → Parsed = λ f next. pick (ltb next (length s)) (late 23 (w * h)) (plate k w h f) in
+      on-values (greysFrom s (w * h) levels (w * h) at) (lateOf (w * h)) end (λ number l. l) (greys-numbered (w * h) levels (w * h) at) λ f next.
+      on-test (ltb next (length s)) (late 23 (w * h)) (plate k w h f) (omega arith) tt
+
+  root-numbered : (k w h count at : ℕ) → Numbered (fromRoot s k w h count at)
+  root-numbered k w h count at =
+      let nodes : ℕ → ℕ → ℕ → Parsed = λ level area at₂. fromNodes s k w h count level at₂ in
+      let sized : ℕ → ℕ → Parsed = λ level at₁. onField (fieldAt s at₁ 1 (w * h)) (lateOf (w * h)) (nodes level) in
+      on-field (fieldAt s at 0 greatestGrey) (lateOf (w * h)) sized (λ number l. l) (at-field at 0 greatestGrey) λ level at₁.
+      on-field (fieldAt s at₁ 1 (w * h)) (lateOf (w * h)) (nodes level) (λ number l. l) (at-field at₁ 1 (w * h)) λ area at₂.
+      on-values (levelsFrom s (w * h) (count - 1) (level ∷ []) at₂) (lateOf (w * h)) (fromOwn s k w h) (λ number l. l)
+      (levels-numbered (w * h) (count - 1) (level ∷ []) at₂) (own-numbered k w h)
+
+  count-numbered : (work k w h at : ℕ) → Numbered (fromCount s work k w h at)
+  count-numbered work k w h at =
+      let root : ℕ → ℕ → Parsed = λ count next. pick (ltb work (8 * (w * h))) (early 6) (fromRoot s k w h count next) in
+      on-field (fieldAt s at 1 (w * h)) early root (λ number l. l) (at-field at 1 (w * h)) λ count next.
+      on-test (ltb work (8 * (w * h))) (early 6) (fromRoot s k w h count next) (omega arith) (root-numbered k w h count next)
+
+  connectivity-numbered : (work w h at : ℕ) → Numbered (fromConnectivity s work w h at)
+  connectivity-numbered work w h at =
+      let rest : ℕ → ℕ → Parsed = λ k next. pick (not (connectivityFits k)) (early 22) (fromCount s work k w h next) in
+      on-field (fieldAt s at 0 (fieldBound - 1)) early rest (λ number l. l) (at-field at 0 (fieldBound - 1)) λ k next.
+      on-test (not (connectivityFits k)) (early 22) (fromCount s work k w h next) (omega arith) (count-numbered work k w h next)
+
+  height-numbered : (work w at : ℕ) → Numbered (fromHeight s work w at)
+  height-numbered work w at =
+      let rest : ℕ → ℕ → Parsed = λ h next. pick (ltb maxPixels (w * h)) (early 22) (fromConnectivity s work w h next) in
+      on-field (fieldAt s at 1 maxSide) early rest (λ number l. l) (at-field at 1 maxSide) λ h next.
+      on-test (ltb maxPixels (w * h)) (early 22) (fromConnectivity s work w h next) (omega arith) (connectivity-numbered work w h next)
+
+  parse-numbered : (work : ℕ) → Numbered (parse s work)
+  unfolding parse
+  parse-numbered work = on-field (fieldAt s 0 1 maxSide) early (fromHeight s work) (λ number l. l) (at-field 0 1 maxSide) (height-numbered work)
+
+  compared-numbered : (P : Parsed) → Numbered P → Numbered (compared s P)
+  compared-numbered (early number) l = l
+  compared-numbered (late number pixels) l = l
+  compared-numbered (plate k w h f) l = on-test (sameBytes s (recordOf k w h f)) (plate k w h f) (late 24 (w * h)) tt (omega arith)
+
+  pub read-numbered : (work : ℕ) → Numbered (readOf s work)
+  unfolding readOf
+  read-numbered work = compared-numbered (parse s work) (parse-numbered work)
+
+-- ---- what is accepted
+
+bytes-are : (xs ys : List ℕ) → sameBytes xs ys ≡ true → xs ≡ ys
+unfolding sameBytes
+bytes-are [] [] e = refl
+bytes-are [] (y ∷ ys) e = absurd (passes e)
+bytes-are (x ∷ xs) [] e = absurd (passes e)
+bytes-are (x ∷ xs) (y ∷ ys) e =
+    let both = both-true (eqb x y) (sameBytes xs ys) e in
+    rw (eqb-true x y (both .0), bytes-are xs ys (both .1))
+
+-- the plate that was compared is the one that is accepted, and the bytes are its record
+taken : (s : List ℕ) (P : Parsed) (k w h : ℕ) (f : List ℕ) → compared s P ≡ plate k w h f → (P ≡ plate k w h f) × (s ≡ recordOf k w h f)
+taken s (early number) k w h f e = let z : _≡_ {A = ℕ} 0 1 = cc in absurd (omega arith)
+taken s (late number pixels) k w h f e = let z : _≡_ {A = ℕ} 0 1 = cc in absurd (omega arith)
+taken s (plate k′ w′ h′ f′) k w h f e = go (sameBytes s (recordOf k′ w′ h′ f′)) refl e
+  where
+    go : (b : Bool) → sameBytes s (recordOf k′ w′ h′ f′) ≡ b → pick b (plate k′ w′ h′ f′) (late 24 (w′ * h′)) ≡ plate k w h f
+        → (plate k′ w′ h′ f′ ≡ plate k w h f) × (s ≡ recordOf k w h f)
+    go true q e = let same = bytes-are s (recordOf k′ w′ h′ f′) q in (e, same ∙ cc)
+    go false q e = let z : _≡_ {A = ℕ} 0 1 = cc in absurd (omega arith)
+
+-- bytes that are read as a plate are that plate's record; the plate is accepted, and its work space was there
+pub read-exact : (s : List ℕ) (work k w h : ℕ) (f : List ℕ) → readOf s work ≡ plate k w h f
+    → (s ≡ recordOf k w h f) × Plate k w h f × (8 * (w * h) ≤ work)
+unfolding readOf
+read-exact s work k w h f e =
+    let t = taken s (parse s work) k w h f e in
+    let p = parse-plate s k w h f work (t .0) in
+    (t .1, p .0, p .1)

@@ -1,0 +1,284 @@
+-- Reading what writing gives: the fields of a plate's record are in their ranges, and they spell the plate.
+use mathlib.Core.Path.{_≡_, refl, sym, ap, _∙_}
+use mathlib.Core.Logic.{inl, inr}
+use mathlib.Core.Bool.{Bool, true}
+use mathlib.Core.List.{List, [], _∷_, _++_, map, append-assoc, append-nil}
+use Prim.Native.Nat.{ℕ, zero, suc, _+_, _-_, _*_, _≤_, _<_}
+use native.Mathlib.Nat.{le-refl, le-trans, add-zero, add-suc, suc-add, zero-add}
+use native.Mathlib.Omega.{arith}
+use borrow.Author.Tests.{le-ltb, eq-eqb}
+use lib.Dec.{eqb, eqb→eq}
+use lib.ListN.{length, drop, length-drop}
+use Rattle.meaning.specs.Component.{grown, same}
+use Rattle.meaning.specs.Nodes.{areaOf, holds, levelOf, nodesOf, own, parent, rise}
+use Rattle.meaning.specs.Paths.{Grid}
+use Rattle.meaning.specs.Plate.{Plate, connectivityFits, greatestGrey, grey, maxPixels, maxSide, touch}
+use Rattle.meaning.specs.Record.{encode, fields, nodeFields, recordOf, treeFields, varint}
+use Rattle.meaning.specs.Sets.{area, elem, gather, nth, place, span, sum, table}
+use Rattle.theory_lists.proofs.Lists.{distinct-area, getD-table, length-table, table-suc}
+use Rattle.theory_lists.proofs.Sets.{area-le}
+use Rattle.theory_lists.proofs.Sums.{area-pos}
+use Rattle.theory_lists.proofs.Tests.{either-cases, passes}
+use Rattle.theory_tree.specs.Tree.{Nodes}
+use Rattle.theory_tree.proofs.Nodes.{nodes-distinct, nth-inside, over-holds, own-below, own-level, parent-below, parent-level, root-area, self-over, some-node}
+use Rattle.theorems.proofs.Plates.{plate-grid, plate-nodes, plate-sizes, plate-some, table-grey}
+use Rattle.record_varint.specs.Field.{accepted, fieldAt, fieldBound}
+use Rattle.record_varint.proofs.Encode.{encode-read, encode-rest}
+use Rattle.record_parse.specs.Parse.{good, greysFrom, levelsFrom, parse, plate, readOf, sameBytes}
+
+-- ---- lists
+
+-- the first part of a gathered list stands in front
+gather-first : (m : ℕ) (g : ℕ → List ℕ) → gather (suc m) g ≡ g 0 ++ gather m (λ (i : ℕ). g (suc i))
+unfolding gather
+gather-first zero g = sym (append-nil (g 0))
+gather-first (suc m) g = ap (λ (l : List ℕ). l ++ g (suc m)) (gather-first m g) ∙ append-assoc (g 0) (gather m (λ (i : ℕ). g (suc i))) (g (suc m))
+
+gather-cong : (m : ℕ) (g g′ : ℕ → List ℕ) → ((i : ℕ) → g i ≡ g′ i) → gather m g ≡ gather m g′
+unfolding gather
+gather-cong zero g g′ e = refl
+gather-cong (suc m) g g′ e = rw (gather-cong m g g′ e, e m)
+
+-- ---- the fields of a plate's tree
+
+-- reading stands at a part of the record: the forms of vs and then those of the rest
+abbrev Stands : List ℕ → ℕ → List ℕ → Type 0
+Stands s at vs = drop at s ≡ encode vs ++ []
+
+module _ {k w h : ℕ} {f : List ℕ} (pl : Plate k w h f) (s : List ℕ) where
+  abbrev n : ℕ
+  n = length f
+
+  abbrev near : ℕ → ℕ → Bool
+  near = touch k w
+
+  abbrev xs : List ℕ
+  xs = nodesOf k w f
+
+  abbrev level : ℕ → ℕ
+  level = levelOf n near (grey f) xs
+
+  abbrev up : ℕ → ℕ
+  up = parent n near (grey f) xs
+
+  abbrev size : ℕ → ℕ
+  size = areaOf n near (grey f) xs
+
+  grid : Grid n near
+  grid = plate-grid pl
+
+  nodes : Nodes n near (grey f) xs
+  nodes = plate-nodes pl
+
+  few : n ≤ 16777216
+  few = omega (arith, pl .long, plate-sizes pl .few-pixels)
+
+  level-low : (i : ℕ) → i < length xs → level i ≤ greatestGrey
+  level-low i l = pl .greys (nth xs i) (nth-inside grid nodes i l)
+
+  size-low : (i : ℕ) → i < length xs → (1 ≤ size i) × (size i ≤ n)
+  unfolding areaOf
+  size-low i l = (
+    area-pos n (holds n near (grey f) xs i) (nth xs i) (nth-inside grid nodes i l) (over-holds grid nodes i (nth xs i) (self-over grid nodes i l)),
+    area-le n (holds n near (grey f) xs i),
+  )
+
+  count-low : length xs ≤ n
+  count-low = le-trans (distinct-area n xs (nodes-distinct grid nodes) (nodes .inside)) (area-le n (elem xs))
+
+  -- ---- the nodes behind the root
+
+  record Through (left : ℕ) (levels : List ℕ) (at : ℕ) (rest : List ℕ) : Type 0 where
+    next : ℕ
+    reads : levelsFrom s n left levels at ≡ good (table (length xs) level) next
+    stands : Stands s next rest
+
+  -- one node's three fields
+  record Node (left i at : ℕ) (rest : List ℕ) : Type 0 where
+    next : ℕ
+    reads : levelsFrom s n (suc left) (table i level) at ≡ levelsFrom s n left (table (suc i) level) next
+    stands : Stands s next rest
+
+  one-node : (left i at : ℕ) (rest : List ℕ) → 0 < i → i < length xs
+      → Stands s at ((i - up i) ∷ (level i - level (up i)) ∷ size i ∷ rest) → Node left i at rest
+  unfolding levelsFrom
+  one-node left i at rest pos l st =
+      let lv : List ℕ = table i level in
+      let back : ℕ = i - up i in
+      let rise : ℕ = level i - level (up i) in
+      let long : length lv ≡ i = length-table i level in
+      let below : up i < i = parent-below grid nodes i pos in
+      let darker : level (up i) < level i = parent-level grid nodes i pos l in
+      let high : level i ≤ greatestGrey = level-low i l in
+      let area = size-low i l in
+      let place : length lv - back ≡ up i = omega arith in
+      let parent-level-is : nth lv (length lv - back) ≡ level (up i) = ap (nth lv) place ∙ getD-table i level (up i) 0 below in
+      let at₁ : ℕ = at + length (varint back) in
+      let at₂ : ℕ = at₁ + length (varint rise) in
+      let at₃ : ℕ = at₂ + length (varint (size i)) in
+      let r₁ : fieldAt s at 1 (length lv) ≡ accepted back at₁ =
+      encode-read s at back (rise ∷ size i ∷ rest) [] st 1 (length lv) (omega (arith, count-low, few)) (omega arith) (omega arith) in
+      let st₁ : Stands s at₁ (rise ∷ size i ∷ rest) = encode-rest s at back (rise ∷ size i ∷ rest) [] st in
+      let r₂ : fieldAt s at₁ 1 (greatestGrey - nth lv (length lv - back)) ≡ accepted rise at₂ =
+      encode-read s at₁ rise (size i ∷ rest) [] st₁ 1 (greatestGrey - nth lv (length lv - back)) (omega arith) (omega arith) (omega arith) in
+      let st₂ : Stands s at₂ (size i ∷ rest) = encode-rest s at₁ rise (size i ∷ rest) [] st₁ in
+      let r₃ : fieldAt s at₂ 1 n ≡ accepted (size i) at₃ = encode-read s at₂ (size i) rest [] st₂ 1 n (omega (arith, few, area)) (area .0) (area .1) in
+      let sum : nth lv (length lv - back) + rise ≡ level i = omega arith in
+      let grown : lv ++ ((nth lv (length lv - back) + rise) ∷ []) ≡ table (suc i) level = ap (λ (x : ℕ). lv ++ (x ∷ [])) sum ∙ sym (table-suc level i) in
+      record {
+        next = at₃;
+        reads = rw (r₁, r₂, r₃, grown);
+        stands = encode-rest s at₂ (size i) rest [] st₂;
+      }
+
+  -- the fields of the nodes from i on, the first of them apart
+  nodes-first : (left i : ℕ) (rest : List ℕ) → gather (suc left) (λ (j : ℕ). nodeFields n near (grey f) xs (i + j)) ++ rest
+      ≡ (i - up i) ∷ (level i - level (up i)) ∷ size i ∷ (gather left (λ (j : ℕ). nodeFields n near (grey f) xs (suc i + j)) ++ rest)
+  unfolding nodeFields
+  nodes-first left i rest =
+      let g : ℕ → List ℕ = nodeFields n near (grey f) xs in
+      ap (λ (l : List ℕ). l ++ rest) (gather-first left (λ (j : ℕ). g (i + j)))
+      ∙ append-assoc (g (i + 0)) (gather left (λ (j : ℕ). g (i + suc j))) rest
+      ∙ ap (λ (x : ℕ). g x ++ (gather left (λ (j : ℕ). g (i + suc j)) ++ rest)) (add-zero i)
+      ∙ ap (λ (l : List ℕ). g i ++ (l ++ rest)) (gather-cong left (λ (j : ℕ). g (i + suc j)) (λ (j : ℕ). g (suc i + j)) (λ j. ap g (add-suc i j ∙ sym (suc-add i j))))
+
+  levels-there : (left i at : ℕ) (rest : List ℕ) → i + left ≡ length xs → 0 < i
+      → Stands s at (gather left (λ (j : ℕ). nodeFields n near (grey f) xs (i + j)) ++ rest) → Through left (table i level) at rest
+  unfolding levelsFrom gather
+  levels-there zero i at rest e pos st = record {
+    next = at;
+    reads = ap (λ (m : ℕ). good (table m level) at) (sym (add-zero i) ∙ e);
+    stands = st;
+  }
+  levels-there (suc left) i at rest e pos st =
+      let tail : List ℕ = gather left (λ (j : ℕ). nodeFields n near (grey f) xs (suc i + j)) ++ rest in
+      let one : Node left i at tail = one-node left i at tail pos (omega arith) (rw (nodes-first left i rest) at st) in
+      let others : Through left (table (suc i) level) (one .next) rest = levels-there left (suc i) (one .next) rest (omega arith) (omega arith) (one .stands) in
+      record { next = others .next; reads = one .reads ∙ others .reads; stands = others .stands }
+
+  -- ---- the pixels' own nodes
+
+  abbrev mine : ℕ → ℕ
+  mine = own n near (grey f) xs
+
+  record Spelt (left p at : ℕ) : Type 0 where
+    next : ℕ
+    reads : greysFrom s n (table (length xs) level) left at ≡ good (map (grey f) (span p left)) next
+    ends : drop next s ≡ []
+
+  greys-there : (left p at : ℕ) → p + left ≡ n → Stands s at (map mine (span p left)) → Spelt left p at
+  unfolding greysFrom span encode
+  greys-there zero p at e st = record { next = at; reads = refl; ends = st }
+  greys-there (suc left) p at e st =
+      let lv : List ℕ = table (length xs) level in
+      let l : p < n = omega arith in
+      let low : mine p < length xs = own-below grid nodes p l in
+      let long : length lv ≡ length xs = length-table (length xs) level in
+      let at₁ : ℕ = at + length (varint (mine p)) in
+      let rest : List ℕ = map mine (span (suc p) left) in
+      let r : fieldAt s at 0 (length lv - 1) ≡ accepted (mine p) at₁ =
+      encode-read s at (mine p) rest [] st 0 (length lv - 1) (omega (arith, count-low, few)) (omega arith) (omega arith) in
+      let others : Spelt left (suc p) at₁ = greys-there left (suc p) at₁ (omega arith) (encode-rest s at (mine p) rest [] st) in
+      let level-is : nth lv (mine p) ≡ grey f p = getD-table (length xs) level (mine p) 0 low ∙ own-level grid nodes p l in
+      record {
+        next = others .next;
+        reads = rw (r, others .reads, level-is);
+        ends = others .ends;
+      }
+
+-- ---- the whole record
+
+kind-low : (k : ℕ) → connectivityFits k ≡ true → k ≤ 8
+unfolding connectivityFits
+kind-low k e = elim (either-cases (eqb k 4) (eqb k 8) (passes e)) [
+  | inl t ↦ omega (arith, eqb→eq k 4 t)
+  | inr t ↦ omega (arith, eqb→eq k 8 t)
+]
+
+module _ {k w h : ℕ} {f : List ℕ} (pl : Plate k w h f) where
+  abbrev bytes : List ℕ
+  bytes = recordOf k w h f
+
+  abbrev count : ℕ
+  count = length (nodesOf k w f)
+
+  abbrev root : ℕ
+  root = levelOf (length f) (touch k w) (grey f) (nodesOf k w f) 0
+
+  abbrev fields-own : List ℕ
+  fields-own = map (own (length f) (touch k w) (grey f) (nodesOf k w f)) (span 0 (length f))
+
+  abbrev fields-nodes : List ℕ
+  fields-nodes = gather (count - 1) (λ (j : ℕ). nodeFields (length f) (touch k w) (grey f) (nodesOf k w f) (1 + j)) ++ fields-own
+
+  some-nodes : 0 < count
+  some-nodes = some-node (plate-grid pl) (plate-nodes pl) 0 (plate-some pl)
+
+  -- the record's fields, one after the other
+  bytes-stand : Stands bytes 0 (w ∷ h ∷ k ∷ count ∷ root ∷ w * h ∷ fields-nodes)
+  unfolding recordOf fields treeFields table
+  bytes-stand =
+      let g : ℕ → List ℕ = nodeFields (length f) (touch k w) (grey f) (nodesOf k w f) in
+      let same : gather (count - 1) (λ (i : ℕ). g (suc i)) ≡ gather (count - 1) (λ (j : ℕ). g (1 + j)) =
+      gather-cong (count - 1) (λ (i : ℕ). g (suc i)) (λ (j : ℕ). g (1 + j)) (λ j. ap g (omega arith)) in
+      let area : areaOf (length f) (touch k w) (grey f) (nodesOf k w f) 0 ≡ w * h = root-area (plate-grid pl) (plate-nodes pl) ∙ pl .long in
+      sym (append-nil bytes)
+      ∙ ap (λ (l : List ℕ). encode (w ∷ h ∷ k ∷ count ∷ root ∷ l) ++ [])
+      (ap (λ (a : ℕ). a ∷ (gather (count - 1) (λ (i : ℕ). g (suc i)) ++ fields-own)) area ∙ ap (λ (l : List ℕ). w * h ∷ (l ++ fields-own)) same)
+
+  pub parse-there : (work : ℕ) → 8 * (w * h) ≤ work → parse bytes work ≡ plate k w h f
+  unfolding parse table
+  parse-there work room =
+      let sz = plate-sizes pl in
+      let rest₃ : List ℕ = root ∷ w * h ∷ fields-nodes in
+      let rest₂ : List ℕ = k ∷ count ∷ rest₃ in
+      let st₀ = bytes-stand in
+      let at₁ : ℕ = 0 + length (varint w) in
+      let at₂ : ℕ = at₁ + length (varint h) in
+      let at₃ : ℕ = at₂ + length (varint k) in
+      let at₄ : ℕ = at₃ + length (varint count) in
+      let at₅ : ℕ = at₄ + length (varint root) in
+      let at₆ : ℕ = at₅ + length (varint (w * h)) in
+      let kind : k ≤ 8 = kind-low k (pl .kind) in
+      let few-nodes : count ≤ w * h = omega (arith, count-low pl bytes, pl .long) in
+      let dark : root ≤ greatestGrey = level-low pl bytes 0 some-nodes in
+      let r₁ : fieldAt bytes 0 1 maxSide ≡ accepted w at₁ = encode-read bytes 0 w (h ∷ rest₂) [] st₀ 1 maxSide (omega (arith, sz .wide .most)) (sz .wide .least) (sz .wide .most) in
+      let st₁ : Stands bytes at₁ (h ∷ rest₂) = encode-rest bytes 0 w (h ∷ rest₂) [] st₀ in
+      let r₂ : fieldAt bytes at₁ 1 maxSide ≡ accepted h at₂ = encode-read bytes at₁ h rest₂ [] st₁ 1 maxSide (omega (arith, sz .high .most)) (sz .high .least) (sz .high .most) in
+      let st₂ : Stands bytes at₂ rest₂ = encode-rest bytes at₁ h rest₂ [] st₁ in
+      let r₃ : fieldAt bytes at₂ 0 (fieldBound - 1) ≡ accepted k at₃ = encode-read bytes at₂ k (count ∷ rest₃) [] st₂ 0 (fieldBound - 1) (omega arith) (omega arith) (omega arith) in
+      let st₃ : Stands bytes at₃ (count ∷ rest₃) = encode-rest bytes at₂ k (count ∷ rest₃) [] st₂ in
+      let r₄ : fieldAt bytes at₃ 1 (w * h) ≡ accepted count at₄ = encode-read bytes at₃ count rest₃ [] st₃ 1 (w * h) (omega (arith, sz .few-pixels)) some-nodes few-nodes in
+      let st₄ : Stands bytes at₄ rest₃ = encode-rest bytes at₃ count rest₃ [] st₃ in
+      let r₅ : fieldAt bytes at₄ 0 greatestGrey ≡ accepted root at₅ = encode-read bytes at₄ root (w * h ∷ fields-nodes) [] st₄ 0 greatestGrey (omega arith) (omega arith) dark in
+      let st₅ : Stands bytes at₅ (w * h ∷ fields-nodes) = encode-rest bytes at₄ root (w * h ∷ fields-nodes) [] st₄ in
+      let r₆ : fieldAt bytes at₅ 1 (w * h) ≡ accepted (w * h) at₆ = encode-read bytes at₅ (w * h) fields-nodes [] st₅ 1 (w * h) (omega (arith, sz .few-pixels)) (omega (arith, plate-some pl, pl .long)) (le-refl (w * h)) in
+      let st₆ : Stands bytes at₆ fields-nodes = encode-rest bytes at₅ (w * h) fields-nodes [] st₅ in
+      let thr = levels-there pl bytes (count - 1) 1 at₆ fields-own (omega (arith, some-nodes)) (omega arith) st₆ in
+      let spl = greys-there pl bytes (length f) 0 (thr .next) (zero-add (length f)) (thr .stands) in
+      let r₇ : levelsFrom bytes (w * h) (count - 1) (root ∷ []) at₆ ≡ good (table count (levelOf (length f) (touch k w) (grey f) (nodesOf k w f))) (thr .next) =
+      ap (λ (m : ℕ). levelsFrom bytes m (count - 1) (root ∷ []) at₆) (sym (pl .long)) ∙ thr .reads in
+      let r₈ : greysFrom bytes (w * h) (table count (levelOf (length f) (touch k w) (grey f) (nodesOf k w f))) (w * h) (thr .next) ≡ good f (spl .next) =
+      ap (λ (m : ℕ). greysFrom bytes m (table count (levelOf (length f) (touch k w) (grey f) (nodesOf k w f))) m (thr .next)) (sym (pl .long))
+      ∙ spl .reads ∙ ap (λ (l : List ℕ). good l (spl .next)) (table-grey f) in
+      let ended : length bytes ≤ spl .next = omega (arith, length-drop (spl .next) bytes, ap length (spl .ends)) in
+      rw (r₁, r₂, le-ltb maxPixels (w * h) (sz .few-pixels), r₃, pl .kind, r₄, le-ltb work (8 * (w * h)) room, r₅, r₆, r₇, r₈, le-ltb (spl .next) (length bytes) ended)
+
+-- ---- and 24
+
+bytes-same : (xs : List ℕ) → sameBytes xs xs ≡ true
+unfolding sameBytes
+bytes-same [] = refl
+bytes-same (x ∷ xs) = rw (eq-eqb x x refl, bytes-same xs)
+
+-- a plate's record, given its space, is read as that plate
+pub read-there : {k w h : ℕ} {f : List ℕ} → Plate k w h f → (work : ℕ) → 8 * (w * h) ≤ work → readOf (recordOf k w h f) work ≡ plate k w h f
+unfolding readOf
+read-there {k} {w} {h} {f} pl work room = rw (parse-there pl work room, bytes-same (recordOf k w h f))
+
+-- two plates with one record are one
+pub record-injective : {k k′ w w′ h h′ : ℕ} {f f′ : List ℕ} → Plate k w h f → Plate k′ w′ h′ f′ → recordOf k w h f ≡ recordOf k′ w′ h′ f′
+    → plate k w h f ≡ plate k′ w′ h′ f′
+record-injective {k} {k′} {w} {w′} {h} {h′} {f} {f′} pl pl′ e =
+    let work : ℕ = 8 * (w * h) + 8 * (w′ * h′) in
+    sym (parse-there pl work (omega arith)) ∙ ap (λ (s : List ℕ). parse s work) e ∙ parse-there pl′ work (omega arith)

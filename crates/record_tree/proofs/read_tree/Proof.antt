@@ -1,0 +1,108 @@
+-- `record_tree::read_tree` meets its contract.
+use borrow.Author.Needs.{needs}
+use Rattle.record_tree.proofs.read_tree.Statement.{statement}
+use Rattle.record_tree.proofs.read_tree.Tie as tie
+use mathlib.Core.Path.{refl, sym, _∙_}
+use Prim.Native.Nat.{ℕ}
+use native.Mathlib.Omega.{arith}
+use borrow.Author.Tests.{not-true, not-false}
+use denote.Ref.{now}
+use lib.ListN.{length}
+use Rattle.record_parse.specs.Parse.{parse, readOf}
+use Rattle.record_tree.proofs.Finding.{PlateSpelt, spelt, spelt-buildable, spelt-few, spelt-here, found-different, found-tree, unspelt-found}
+
+-- the plate that the bytes spell: width, height, connectivity
+abbrev wide : tie.After-known-told → ℕ
+wide c = c .before .p .given .0 .0
+
+abbrev high : tie.After-known-told → ℕ
+high c = c .before .p .given .0 .1 .0
+
+abbrev kind : tie.After-known-told → ℕ
+kind c = c .before .p .given .0 .1 .1 .0
+
+abbrev start : tie.After-known-told → tie.Start
+start c = c .before .before .before .before .before .before .before .before .before
+
+told : (c : tie.After-known-told) → PlateSpelt (now (start c .args .bytes)) (now (start c .args .work)) (c .before .before .before .before .before .parse-record .last .1 .0) (wide c) (high c) (kind c)
+told c =
+    let p = c .before .before .before .before .before .parse-record in
+    let s = start c .args in
+    spelt (now (s .bytes)) (parse (now (s .bytes)) (length (now (s .work)))) refl (p .ensures .0) (p .ensures .1) (c .before .p .given .1)
+
+parse-record-requires : tie.Need-parse-record-requires
+parse-record-requires c κs = search needs
+
+enum-known-p : tie.Need-enum-known-p
+enum-known-p c = search needs
+
+unspelt-requires : tie.Need-unspelt-requires
+unspelt-requires c κs = search needs
+
+same-length : tie.Need-same-length
+same-length c = search needs
+
+returns : tie.Need-returns
+unfolding readOf parse
+returns c =
+    let s = c .before .before .before .before .before .before .before .before .args in
+    let p = c .before .before .before .before .parse-record in
+    unspelt-found (now (s .bytes)) (parse (now (s .bytes)) (length (now (s .work)))) (p .ensures .0) (p .ensures .1) (c .before .match .keys2) (c .unspelt .ensures)
+
+mul-n : tie.Need-mul-n
+mul-n c = omega (arith, spelt-few (told c))
+
+cast-n : tie.Need-cast-n
+cast-n c = omega (arith, spelt-few (told c))
+
+cast-build-tree : tie.Need-cast-build-tree
+cast-build-tree c = search needs
+
+cast-build-tree-2 : tie.Need-cast-build-tree-2
+cast-build-tree-2 c = search needs
+
+cast-build-tree-3 : tie.Need-cast-build-tree-3
+cast-build-tree-3 c = search needs
+
+build-tree-requires : tie.Need-build-tree-requires
+build-tree-requires c κs = spelt-buildable (told (c .before)) refl
+
+same-requires : tie.Need-same-requires
+same-requires c κs = spelt-here (told (c .before .before .before .before .before)) refl (c .before .before .before .build-tree .ensures)
+
+same-length-2 : tie.Need-same-length-2
+same-length-2 c = search needs
+
+returns-2 : tie.Need-returns-2
+returns-2 c =
+    let b = c .before .before .before .before .before in
+    found-different (told (b .before .before)) refl (b .build-tree .ensures) (sym (c .before .same .ensures) ∙ not-true _ (c .if1 .taken))
+
+same-length-3 : tie.Need-same-length-3
+same-length-3 c = search needs
+
+returns-3 : tie.Need-returns-3
+returns-3 c =
+    let b = c .before .before .before .before .before in
+    found-tree (told (b .before .before)) refl (b .build-tree .ensures) (sym (c .before .same .ensures) ∙ not-false _ (c .if1 .left))
+
+pub read-tree-spec : {M : Type 1} → statement M
+read-tree-spec =
+    tie.close
+    (tie.spec
+    parse-record-requires
+    enum-known-p
+    unspelt-requires
+    same-length
+    returns
+    mul-n
+    cast-n
+    cast-build-tree
+    cast-build-tree-2
+    cast-build-tree-3
+    build-tree-requires
+    same-requires
+    same-length-2
+    returns-2
+    same-length-3
+    returns-3)

@@ -1,0 +1,78 @@
+// A record read up to 24: the tree of its plate stands in the work space, or the specification's number says why not.
+ghost use mathlib.Core.Path.{_≡_};
+ghost use lib.ListN.{length};
+ghost use Rattle.meaning.specs.Answers.{over};
+ghost use Rattle.record_fields.specs.Fields.{plateIn};
+ghost use Rattle.record_parse.specs.Parse.{readOf};
+ghost use Rattle.record_tree.specs.Found.{FoundIs, numberOf, Clearable, clearedBy, unspeltOf, GreysStand};
+use record_parse::Parse;
+
+// What reading a record finds, up to 24. `FoundIs` says it in the specification's terms.
+pub enum Found {
+    // Refused by 6 or ahead of it, so that no work has begun: the specification's number.
+    Early(u32),
+    // Refused behind 6: the specification's number, and the pixels.
+    Late(u32, usize),
+    // A plate whose tree stands in the work space: width, height, connectivity, the number of nodes.
+    Tree(u32, u32, u32, usize),
+}
+
+// What a record that is no plate's is refused by.
+fn unspelt(p: Parse) -> Found
+    ensures { λ r. ⌜ r ≡ unspeltOf p ⌝ }
+{
+    match p {
+        Parse::Early(number) => Found::Early(number),
+        Parse::Late(number, pixels) => Found::Late(number, pixels),
+        Parse::Plate(_, _, _) => Found::Early(0),
+    }
+}
+
+// Reads a record up to 24. The tree of its plate then stands in the work space.
+pub fn read_tree(bytes: &[u8], work: &mut [u32]) -> Found
+    ensures { λ r. ⌜ FoundIs (readOf (now (bytes .entry)) (length (now (work .entry)))) (now (work .entry)) (now (work .exit)) r ⌝ }
+{
+    let p = record_parse::parse_record(bytes, work);
+    let Parse::Plate(width, height, connectivity) = p else {
+        return unspelt(p);
+    };
+    let n = (width * height) as usize;
+    let count = maxtree::build_tree(
+        work,
+        n,
+        width as usize,
+        height as usize,
+        connectivity as usize,
+    );
+    if !record_fields::same(work, n, width, height, connectivity, count, bytes) {
+        return Found::Late(24, n);
+    }
+    Found::Tree(width, height, connectivity, count)
+}
+
+// the specification's number of a refusal; the work space is zeroed where the work had begun.
+pub fn give_up(f: Found, work: &mut [u32]) -> u32
+    requires { ⌜ Clearable f (now work) ⌝ }
+    ensures { λ r. ⌜ (r ≡ numberOf f) × (now (work .exit) ≡ clearedBy f (now (work .entry))) ⌝ }
+{
+    match f {
+        Found::Early(number) => number,
+        Found::Late(number, pixels) => {
+            work_columns::clear(work, pixels);
+            number
+        }
+        Found::Tree(_, _, _, _) => 0,
+    }
+}
+
+// Writes the greys in the work space.
+pub fn write_greys(w: &[u32], n: usize, out: &mut [u8])
+    requires { ⌜ GreysStand n (now w) (now out) ⌝ }
+    ensures { λ _. ⌜ now (out .exit) ≡ over (plateIn n (now (w .entry))) (now (out .entry)) ⌝ }
+{
+    let mut p: usize = 0;
+    while p < n {
+        out[p] = work_columns::get(w, n, 0, p) as u8;
+        p += 1;
+    }
+}

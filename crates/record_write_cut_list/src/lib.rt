@@ -1,0 +1,101 @@
+// Demand 3 as code, at one limit: a plate's record, the cut of it and its size list, with the exact bytes passed on.
+ghost use mathlib.Core.Path.{_≡_};
+ghost use lib.ListN.{length};
+ghost use Rattle.record_write_cut_list.specs.Joint.{earlyRefusal, Joined};
+
+// What the operation answers: the length of the record in bytes, the number of nodes, the darkest grey.
+#[repr(C)]
+pub struct Joint {
+    pub refusal: u32,
+    pub length: usize,
+    pub nodes: u32,
+    pub darkest: u32,
+}
+
+// The answer that refuses: the number, and zeros elsewhere.
+fn refused(number: u32) -> Joint
+    ensures { λ r. ⌜ r ≡ record { refusal = number; length = 0; nodes = 0; darkest = 0 } ⌝ }
+{
+    Joint {
+        refusal: number,
+        length: 0,
+        nodes: 0,
+        darkest: 0,
+    }
+}
+
+// The refusal by the sizes of all but the record: those of opening, then 5 for a table that is too short; else 0.
+pub fn early_refusal(
+    connectivity: u32,
+    width: u32,
+    height: u32,
+    limit: u32,
+    plate: usize,
+    out: usize,
+    counts: usize,
+    losses: usize,
+    work: usize,
+) -> u32
+    ensures { λ r. ⌜ r ≡ earlyRefusal connectivity width height limit plate out counts losses work ⌝ }
+{
+    let refusal = plate_refusals::clean_refusal(
+        connectivity,
+        width,
+        height,
+        limit,
+        plate,
+        out,
+        work,
+    );
+    if refusal != 0 {
+        return refusal;
+    }
+    if record::tables_short(plate, counts, losses) {
+        return 5;
+    }
+    0
+}
+
+// Writes the record of a plate, cuts it at a limit, and lists its sizes.
+pub fn write_cut_list(
+    image: &[u8],
+    width: u32,
+    height: u32,
+    connectivity: u32,
+    limit: u32,
+    bytes: &mut [u8],
+    out: &mut [u8],
+    counts: &mut [u32],
+    losses: &mut [u64],
+    work: &mut [u32],
+) -> Joint
+    ensures { λ r. ⌜ Joined connectivity width height limit (now (image .entry)) (now (bytes .entry)) (now (bytes .exit)) (now (out .entry)) (now (out .exit)) (now (counts .entry)) (now (counts .exit)) (now (losses .entry)) (now (losses .exit)) (now (work .entry)) (now (work .exit)) r ⌝ }
+{
+    let early = early_refusal(
+        connectivity,
+        width,
+        height,
+        limit,
+        image.len(),
+        out.len(),
+        counts.len(),
+        losses.len(),
+        work.len(),
+    );
+    if early != 0 {
+        return refused(early);
+    }
+    let written = record::write_record(image, width, height, connectivity, bytes, work);
+    if written.refusal != 0 {
+        return refused(written.refusal);
+    }
+    let length = written.length;
+    record::cut_record(&bytes[..length], limit, out, work);
+    let sizes = record::size_list(&bytes[..length], counts, losses, work);
+    Joint {
+        refusal: 0,
+        length: length,
+        nodes: sizes.nodes,
+        darkest: sizes.darkest,
+    }
+}

@@ -1,0 +1,25 @@
+-- What the functions that make the text are given and leave.
+use mathlib.Core.Path.{_≡_}
+use mathlib.Core.Bool.{true}
+use mathlib.Core.List.{List}
+use Prim.Native.Nat.{ℕ, _*_, _≤_}
+use lib.ListN.{length}
+use Rattle.meaning.specs.Answers.{over}
+use Rattle.meaning.specs.Plate.{gridFits}
+use Rattle.text_sizelist.specs.Text.{heldPixels}
+
+-- the bytes that the longest text needs, and more
+abbrev pub textPlaces : ℕ
+textPlaces = 65536
+
+-- a plate that the program holds, and a text that has the places
+pub record Held (w h : ℕ) (f text : List ℕ) : Type 0 where
+  pub sizes : gridFits w h ≡ true
+  pub long : length f ≡ w * h
+  pub small : length f ≤ heldPixels
+  pub room : textPlaces ≤ length text
+
+-- the whole text was made: its length, and the excess untouched
+pub record Made (answer text text′ : List ℕ) (r : ℕ) : Type 0 where
+  pub long : r ≡ length answer
+  pub output : text′ ≡ over answer text

@@ -1,0 +1,62 @@
+-- What the program sizelist prints for a file, as bytes: SPECIFICATION 7.
+use mathlib.Core.List.{List, [], _∷_, _++_}
+use Prim.Native.Nat.{ℕ, suc, _-_}
+use lib.Dec.{eqb, ltb}
+use lib.ListN.{length}
+use Rattle.meaning.specs.Cut.{counts, darkest, losses}
+use Rattle.meaning.specs.Ink.{inkOf}
+use Rattle.meaning.specs.Nodes.{nodesOf}
+use Rattle.meaning.specs.Sets.{gather, nth, pick}
+use Rattle.pgm.specs.File.{rasterOf, readPgm}
+use Rattle.pgm.specs.Text.{bytes}
+use Rattle.pgm.specs.declared.PgmRead.{PgmRead}
+use Rattle.text_lines.specs.Lines.{decimal, line}
+
+-- the longest input, in bytes; the pixels that the program holds; the connectivity that it uses
+abbrev pub inputBytes : ℕ
+inputBytes = 4096
+
+abbrev pub heldPixels : ℕ
+heldPixels = 1024
+
+abbrev pub sides : ℕ
+sides = 4
+
+-- a refusal: "refused" and the number
+unfoldable pub refusedText : ℕ → List ℕ
+unfolding bytes line
+refusedText number = line (bytes "refused") (number ∷ [])
+
+-- "size", width, height, connectivity, node count
+unfoldable pub headLine : ℕ → ℕ → ℕ → ℕ → List ℕ
+unfolding bytes line
+headLine w h k nodes = line (bytes "size") (w ∷ h ∷ k ∷ nodes ∷ [])
+
+-- the line of an area, where its count is above zero: area, count, grey lost
+unfoldable pub areaLine : ℕ → ℕ → ℕ → List ℕ
+unfolding decimal line
+areaLine a count lost = pick (ltb 0 count) (line (decimal a) (count ∷ lost ∷ [])) []
+
+-- that of area i + 1, whose count and loss stand at the place i of the tables
+abbrev pub sizeLine : List ℕ → List ℕ → ℕ → List ℕ
+sizeLine counted lost i = areaLine (suc i) (nth counted i) (nth lost i)
+
+-- "rest", darkest grey, its ink percentage
+unfoldable pub restLine : ℕ → List ℕ
+unfolding bytes line inkOf
+restLine grey = line (bytes "rest") (grey ∷ inkOf grey ∷ [])
+
+-- a plate of width w and height h: one line for each area from 1 to pixels - 1, rising, between the first line and the last
+unfoldable pub plateText : ℕ → ℕ → List ℕ → List ℕ
+unfolding headLine areaLine restLine gather nodesOf counts losses darkest
+plateText w h f =
+    (headLine w h sides (length (nodesOf sides w f)) ++ gather (length f - 1) (sizeLine (counts sides w f) (losses sides w f))) ++ restLine (darkest f)
+
+-- what reading the plate file answered, and the raster: its refusal, or the plate
+abbrev pub answerText : PgmRead → List ℕ → List ℕ
+answerText read f = pick (eqb (read .refusal) 0) (plateText (read .width) (read .height) f) (refusedText (read .refusal))
+
+-- the text of a file. An input that is too long is refused before any parsing; a plate of more pixels than are held is refusal 5 of reading it
+unfoldable pub sizeText : List ℕ → List ℕ
+unfolding readPgm rasterOf plateText refusedText
+sizeText file = pick (ltb inputBytes (length file)) (refusedText 6) (answerText (readPgm file heldPixels) (rasterOf file))

@@ -1,0 +1,42 @@
+-- What sizes that fit say, as orders.
+use mathlib.Core.Path.{_≡_}
+use mathlib.Core.Bool.{true, _&&_}
+use Prim.Native.Nat.{ℕ, _*_, _≤_}
+use native.Mathlib.Nat.{mul-le-mul}
+use lib.Dec.{T, leb, leb→le}
+use Rattle.meaning.specs.Plate.{gridFits, maxPixels, maxSide}
+use Rattle.theory_lists.proofs.Tests.{passes, tests}
+
+-- a side that fits
+pub record Side (s : ℕ) : Type 0 where
+  pub least : 1 ≤ s
+  pub most : s ≤ maxSide
+
+pub side-is : (s : ℕ) → (leb 1 s && leb s maxSide) ≡ true → Side s
+side-is s e =
+    let t : T (leb 1 s && leb s maxSide) = passes e in
+    record { least = leb→le 1 s (search tests); most = leb→le s maxSide (search tests) }
+
+-- a width, a height and pixels that fit
+pub record Sizes (w h : ℕ) : Type 0 where
+  pub wide : Side w
+  pub high : Side h
+  pub some-pixels : 1 ≤ w * h
+  pub few-pixels : w * h ≤ maxPixels
+
+pub grid-sizes : (w h : ℕ) → gridFits w h ≡ true → Sizes w h
+unfolding gridFits
+grid-sizes w h e =
+    let t : T (gridFits w h) = passes e in
+    let a : Side w = record { least = leb→le 1 w (search tests); most = leb→le w maxSide (search tests) } in
+    let b : Side h = record { least = leb→le 1 h (search tests); most = leb→le h maxSide (search tests) } in
+    record {
+      wide = a;
+      high = b;
+      some-pixels = mul-le-mul {n₁ = 1} {m₁ = 1} {n₂ = w} {m₂ = h} (a .least) (b .least);
+      few-pixels = leb→le (w * h) maxPixels (search tests);
+    }
+
+-- the product of two sides
+pub product : (w h : ℕ) → Side w → Side h → w * h ≤ maxSide * maxSide
+product w h a b = mul-le-mul {n₁ = w} {m₁ = h} {n₂ = maxSide} {m₂ = maxSide} (a .most) (b .most)

@@ -1,0 +1,147 @@
+-- Totals of cuts, and what each value of the attribute takes away. Proved for every attribute: the cut of the tree is the opening (cut-opened); the total of the
+-- cut at a limit is the sum, over the nodes that qualify, of area times rise (total-nodes); the grey lost at a is that sum over the nodes whose attribute is a
+-- (lost-nodes), and the total at a less the total at a + 1 (total-lost); the losses at 1 .. n - 1 and the total at n make the plate's total (losses-total).
+-- For the area: the cut at n is the darkest grey everywhere (area-all-darkest).
+use mathlib.Core.Path.{_≡_, sym, ap, _∙_}
+use mathlib.Core.Bool.{Bool}
+use mathlib.Core.List.{List}
+use Prim.Native.Nat.{ℕ, suc, _+_, _-_, _*_, _≤_, _<_}
+use native.Mathlib.Nat.{le-refl, le-trans, le-of-eq, le-antisymm}
+use native.Mathlib.Decide.{decLe}
+use native.Mathlib.Omega.{arith}
+use lib.Dec.{leb, leb→le, eqb, eqb→eq, eqb-refl}
+use lib.ListN.{length}
+use Rattle.meaning.specs.Component.{same}
+use Rattle.meaning.specs.Cut.{cutAt, lostAt}
+use Rattle.meaning.specs.Nodes.{areaOf, holds, levelOf, rise}
+use Rattle.meaning.specs.Opening.{Attribute, Criterion, atLeast, attribute, openedAt, patch}
+use Rattle.meaning.specs.Paths.{Grid}
+use Rattle.meaning.specs.Plate.{Below}
+use Rattle.meaning.specs.Sets.{area, has, nth, pick, sum}
+use Rattle.theory_connectivity.proofs.Paths.{end-ok}
+use Rattle.theory_lists.proofs.Sets.{area-full, most-ge, most-le}
+use Rattle.theory_lists.proofs.Sums.{sum-add, sum-cong, sum-const, sum-steps}
+use Rattle.theory_lists.proofs.Tests.{orders, pick-le, pick-no, pick-yes}
+use Rattle.theory_opening.proofs.Area.{area-attribute}
+use Rattle.theory_opening.proofs.Attribute.{attribute-criterion, attribute-falls, attribute-one}
+use Rattle.theory_opening.proofs.Opening.{opened-kept, patch-joined}
+use Rattle.theory_tree.specs.Tree.{Nodes, live}
+use Rattle.theory_tree.proofs.Nodes.{nth-inside, some-node}
+use Rattle.theory_tree.proofs.Rises.{live-hit, live-level, live-root, total-sum}
+
+-- ---- the cut of the tree is the opening
+
+module _ {n : ℕ} {near : ℕ → ℕ → Bool} {keep : (ℕ → Bool) → Bool} (grid : Grid n near) (crit : Criterion n keep) {f : ℕ → ℕ} {xs : List ℕ} (nodes : Nodes n near f xs) where
+  pub cut-opened : (p : ℕ) → p < n → cutAt n near f xs keep p ≡ openedAt n near keep f p
+  unfolding cutAt live
+  cut-opened p l =
+      let g : ℕ → ℕ = λ (j : ℕ). pick (live n near f xs keep p j) (levelOf n near f xs j) 0 in
+      let r = live-hit grid crit nodes p l in
+      le-antisymm
+      (most-le (length xs) g (openedAt n near keep f p) (λ j m. pick-le (live n near f xs keep p j) (f (nth xs j)) (openedAt n near keep f p) (live-level grid crit nodes p j l)))
+      (le-trans (le-of-eq (sym (r .3) ∙ sym (pick-yes (live n near f xs keep p (r .0)) (f (nth xs (r .0))) 0 (r .2)))) (most-ge (length xs) g (r .0) (r .1)))
+
+-- ---- one node: at least a is at least a + 1, or exactly a
+
+split : (a s r : ℕ) → pick (leb a s) r 0 ≡ pick (leb (suc a) s) r 0 + pick (eqb s a) r 0
+split a s r = elim (decLe a s) [
+  | yes h ↦ elim (decLe s a) [
+    | yes k ↦
+        let e : s ≡ a = omega arith in
+        omega (
+          arith,
+          pick-yes (leb a s) r 0 (omega orders),
+          pick-no (leb (suc a) s) r 0 (λ t. omega orders),
+          pick-yes (eqb s a) r 0 (rw e (eqb-refl a)),
+        )
+    | no k ↦
+        omega (
+          arith,
+          pick-yes (leb a s) r 0 (omega orders),
+          pick-yes (leb (suc a) s) r 0 (omega orders),
+          pick-no (eqb s a) r 0 (λ t. omega (arith, eqb→eq s a t)),
+        )
+  ]
+  | no h ↦
+      omega (
+        arith,
+        pick-no (leb a s) r 0 (λ t. omega orders),
+        pick-no (leb (suc a) s) r 0 (λ t. omega orders),
+        pick-no (eqb s a) r 0 (λ t. omega (arith, eqb→eq s a t)),
+      )
+]
+
+module _ {n : ℕ} {near : ℕ → ℕ → Bool} {att : (ℕ → Bool) → ℕ} (grid : Grid n near) (at : Attribute n att) {f : ℕ → ℕ} {xs : List ℕ} (nodes : Nodes n near f xs) where
+  abbrev cutTotal : ℕ → ℕ
+  cutTotal limit = sum n (cutAt n near f xs (atLeast att limit))
+
+  -- area times rise
+  abbrev part : ℕ → ℕ
+  part j = areaOf n near f xs j * rise n near f xs j
+
+  cut-limit : (limit : ℕ) → limit ≤ n → (p : ℕ) → p < n → cutAt n near f xs (atLeast att limit) p ≡ openedAt n near (atLeast att limit) f p
+  cut-limit limit h = cut-opened grid (attribute-criterion at limit h) nodes
+
+  pub total-nodes : (limit : ℕ) → limit ≤ n
+      → sum n (cutAt n near f xs (atLeast att limit))
+      ≡ sum (length xs) (λ (j : ℕ). pick (leb limit (att (holds n near f xs j))) (areaOf n near f xs j * rise n near f xs j) 0)
+  total-nodes limit h =
+      sum-cong n (cutAt n near f xs (atLeast att limit)) (openedAt n near (atLeast att limit) f) (cut-limit limit h)
+      ∙ total-sum grid (attribute-criterion at limit h) nodes
+
+  pub total-lost : (a : ℕ) → a < n → cutTotal a ≡ cutTotal (suc a) + lostAt n near f xs att a
+  unfolding lostAt
+  total-lost a h =
+      let low : ℕ → ℕ = cutAt n near f xs (atLeast att (suc a)) in
+      let high : ℕ → ℕ = cutAt n near f xs (atLeast att a) in
+      let falls : Below n low high = λ p l.
+      omega (arith, cut-limit (suc a) h p l, cut-limit a (omega arith) p l, attribute-falls grid at a (suc a) (omega arith) h f p l) in
+      sum-cong n high (λ (p : ℕ). low p + (high p - low p)) (λ p l. omega (arith, falls p l)) ∙ sum-add n low (λ (p : ℕ). high p - low p)
+
+  pub lost-nodes : (a : ℕ) → a < n
+      → lostAt n near f xs att a ≡ sum (length xs) (λ (j : ℕ). pick (eqb (att (holds n near f xs j)) a) (areaOf n near f xs j * rise n near f xs j) 0)
+  lost-nodes a h =
+      let s : ℕ → ℕ = λ (j : ℕ). att (holds n near f xs j) in
+      let high : ℕ → ℕ = λ (j : ℕ). pick (leb (suc a) (s j)) (part j) 0 in
+      let same : ℕ → ℕ = λ (j : ℕ). pick (eqb (s j) a) (part j) 0 in
+      omega (
+        arith,
+        total-lost a h,
+        total-nodes a (omega arith),
+        total-nodes (suc a) h,
+        sum-cong (length xs) (λ (j : ℕ). pick (leb a (s j)) (part j) 0) (λ (j : ℕ). high j + same j) (λ j l. split a (s j) (part j)),
+        sum-add (length xs) high same,
+      )
+
+  pub total-one : cutTotal 1 ≡ sum n f
+  total-one = sum-cong n (cutAt n near f xs (atLeast att 1)) f (λ p l. cut-limit 1 (omega arith) p l ∙ attribute-one grid at f p l)
+
+  -- the losses at 1 .. n - 1, and the total at n, make the plate's total
+  pub losses-total : 0 < n → sum (n - 1) (λ (i : ℕ). lostAt n near f xs att (suc i)) + cutTotal n ≡ sum n f
+  losses-total h =
+      let e : suc (n - 1) ≡ n = omega arith in
+      omega (
+        arith,
+        sum-steps (λ (i : ℕ). cutTotal (suc i)) (λ (i : ℕ). lostAt n near f xs att (suc i)) (n - 1) (λ i l. total-lost (suc i) (omega arith)),
+        ap cutTotal e,
+        total-one,
+      )
+
+-- ---- the area
+
+module _ {n : ℕ} {near : ℕ → ℕ → Bool} (grid : Grid n near) {f : ℕ → ℕ} {xs : List ℕ} (nodes : Nodes n near f xs) where
+  -- the cut at n is the root's level, the darkest grey, everywhere
+  pub area-all-darkest : (p : ℕ) → p < n → cutAt n near f xs (atLeast (attribute n) n) p ≡ f (nth xs 0)
+  area-all-darkest p l =
+      let c = attribute-criterion (area-attribute n) n (le-refl n) in
+      let t : ℕ = openedAt n near (atLeast (attribute n) n) f p in
+      let a : ℕ = nth xs 0 in
+      let la : a < n = nth-inside grid nodes 0 (some-node grid nodes p l) in
+      let full : n ≤ area n (has (patch n near f t p)) = leb→le n (area n (has (patch n near f t p))) (opened-kept grid c f t p l (le-refl t)) in
+      cut-opened grid c nodes p l
+      ∙ le-antisymm
+      (leb→le t (f a) (end-ok (patch-joined grid f t p a la (area-full n (has (patch n near f t p)) full a la))))
+      (live-level grid c nodes p 0 l (live-root grid c nodes p l))
+
+  pub area-total-all : sum n (cutAt n near f xs (atLeast (attribute n) n)) ≡ n * f (nth xs 0)
+  area-total-all = sum-cong n (cutAt n near f xs (atLeast (attribute n) n)) (λ (p : ℕ). f (nth xs 0)) area-all-darkest ∙ sum-const n (f (nth xs 0))

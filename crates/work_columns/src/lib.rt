@@ -1,0 +1,37 @@
+// The work space: eight columns of n numbers in one lent slice. These functions serve the crates above; their callers keep within the columns.
+ghost use mathlib.Core.Path.{_≡_};
+ghost use mathlib.Core.List.{_++_};
+ghost use Prim.Native.Nat.{_+_, _*_, _<_};
+ghost use lib.ListN.{drop, replicate};
+ghost use Rattle.work_columns.specs.Columns.{col, Room, Stored};
+
+// The entry i of column c.
+pub fn get(w: &[u32], n: usize, c: usize, i: usize) -> usize
+    requires { ⌜ Room (now w) n ⌝ }
+    requires { ⌜ (c < 8) × (i < n) ⌝ }
+    ensures { λ r. ⌜ (r ≡ col c n (now (w .entry)) i) × (r < 4294967296) ⌝ }
+{
+    w[c * n + i] as usize
+}
+
+// Sets the entry i of column c.
+pub fn put(w: &mut [u32], n: usize, c: usize, i: usize, v: usize)
+    requires { ⌜ Room (now w) n ⌝ }
+    requires { ⌜ (c < 8) × ((i < n) × (v < 4294967296)) ⌝ }
+    ensures { λ _. ⌜ Stored (now (w .entry)) (now (w .exit)) n c i v ⌝ }
+{
+    w[c * n + i] = v as u32;
+}
+
+// Sets the eight columns to zero.
+pub fn clear(w: &mut [u32], n: usize)
+    requires { ⌜ Room (now w) n ⌝ }
+    ensures { λ _. ⌜ now (w .exit) ≡ replicate (8 * n) 0 ++ drop (8 * n) (now (w .entry)) ⌝ }
+{
+    let end = 8 * n;
+    let mut i: usize = 0;
+    while i < end {
+        w[i] = 0;
+        i += 1;
+    }
+}
