@@ -41,11 +41,11 @@ enum livukoe_refusal {
     LIVUKOE_HEADER = 11,        /* a gap or number of the header is missing or malformed, or the last blank is absent */
     LIVUKOE_GREATEST_GREY = 12, /* the third number of the header is not 255 */
     LIVUKOE_RASTER_SHORT = 14,  /* the plate file ends before its last pixel */
-    LIVUKOE_RASTER_LONG = 15,   /* bytes are left over behind the last pixel */
+    LIVUKOE_RASTER_LONG = 15,   /* bytes are left over after the last pixel */
     LIVUKOE_FIELD_UNENDED = 20, /* the record ends before a byte with its top bit clear */
     LIVUKOE_FIELD_FORM = 21,    /* a field is not in its shortest form, or is 4294967296 or more */
     LIVUKOE_FIELD_RANGE = 22,   /* a field is outside its range */
-    LIVUKOE_RECORD_LONG = 23,   /* bytes are left over behind the last field */
+    LIVUKOE_RECORD_LONG = 23,   /* bytes are left over after the last field */
     LIVUKOE_NOT_CANONICAL = 24  /* the bytes differ from the record of the plate that they spell */
 };
 
@@ -122,7 +122,7 @@ struct livukoe_record_head {
     uint32_t connectivity;
 };
 
-/* Reads a record: `out` gets its plate. Refusals 20, 21, 22 field by field, with 6 behind the node count; 23, 24, 5. */
+/* Reads a record: `out` gets its plate. Refusals 20, 21, 22 field by field, with 6 after the node count; 23, 24, 5. */
 struct livukoe_record_head livukoe_read_record(
     const uint8_t *bytes, size_t bytes_length, uint8_t *out, size_t out_length, uint32_t *work, size_t work_length);
 

@@ -83,7 +83,7 @@ impl Record {
     }
 }
 
-/// The number at the front, in groups of seven bits, lowest first, and the bytes behind it.
+/// The number at the front, in groups of seven bits, lowest first, and the bytes after it.
 fn field(bytes: &[u8]) -> (usize, &[u8]) {
     let end = bytes.iter().position(|byte| byte & 128 == 0);
     let (number, rest) = bytes.split_at(end.map_or(0, |last| last + 1));

@@ -52,7 +52,7 @@ fn the_example() {
     assert_eq!(output.stdout, b"refusal 0, pixel 5: 30\n");
 }
 
-/// No access beyond a buffer, no use of what was never written, nothing left behind.
+/// No access beyond a buffer, no use of what was never written, nothing left after.
 #[test]
 fn under_valgrind() {
     let program = compiled("tests/c/check.c", "check_memory");

@@ -53,7 +53,7 @@ fn read_checked(file: &[u8], out: &mut [u8]) -> Result<(u32, u32), u32> {
 type Numbers = (u32, u32, u32);
 
 /// Takes gap, width, gap, height, gap, third number and one blank off the
-/// front; also hands back the bytes behind them.
+/// front; also hands back the bytes after them.
 fn take_numbers(bytes: &[u8]) -> Option<(Numbers, &[u8])> {
     let (width, bytes) = take_number(skip_gap(bytes)?)?;
     let (height, bytes) = take_number(skip_gap(bytes)?)?;

@@ -141,7 +141,7 @@ pub struct Held {
 }
 
 /// All conditions on a record up to 24, in order. Work space is zeroed as
-/// soon as 6 is behind, so every later refusal finds it so.
+/// soon as 6 is after, so every later refusal finds it so.
 pub fn accept_record(record: &[u8], work: &mut [u32]) -> Result<Held, u32> {
     let mut fields = Fields { bytes: record };
     let (grid, count) = take_head(&mut fields)?;

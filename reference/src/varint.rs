@@ -12,7 +12,7 @@ pub fn spelled(mut value: u32) -> Vec<u8> {
     bytes
 }
 
-/// Takes one field off the front of the bytes: its value and the bytes behind
+/// Takes one field off the front of the bytes: its value and the bytes after
 /// it, or 20 when no byte ends it, or 21 when it is not the shortest form of
 /// a number below 4,294,967,296.
 pub fn take_field(bytes: &[u8]) -> Result<(u32, &[u8]), u32> {

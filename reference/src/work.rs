@@ -12,7 +12,7 @@ pub fn check_work(work: &[u32], pixels: usize) -> Result<(), u32> {
     Ok(())
 }
 
-/// Leaves the work space as a return behind 6 leaves it: its first
+/// Leaves the work space as a return after 6 leaves it: its first
 /// 8 x pixels entries zero, later ones untouched.
 pub fn zero_work(work: &mut [u32], pixels: usize) {
     work[..ENTRIES_PER_PIXEL * pixels].fill(0);

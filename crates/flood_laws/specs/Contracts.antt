@@ -210,7 +210,7 @@ pub record Turned (k wd ht n : ℕ) (w w′ t t′ : List ℕ) (r : ℕ) : Type 
 
 -- ---- before the first step
 
--- the greys of the first p pixels are counted, and these are not seen: each holds its grey behind n
+-- the greys of the first p pixels are counted, and these are not seen: each holds n plus its grey
 pub record Counted (n : ℕ) (w w′ t t′ : List ℕ) (p : ℕ) : Type 0 where
   pub kept : Kept n w w′ t t′
   pub unseen : (q : ℕ) → q < p → col OWN n w′ q ≡ n + col GREY n w q

@@ -23,7 +23,7 @@ use Rattle.work_columns.specs.Layout.{Alike, Up}
 abbrev pub Seen : ℕ → (ℕ → ℕ) → ℕ → Type 0
 Seen n own p = (p < n) × (own p < n)
 
--- a pixel that is not seen holds its grey, behind n, where its node will stand
+-- a pixel that is not seen holds n plus its grey where its node will stand
 abbrev pub Fresh : ℕ → (ℕ → ℕ) → (ℕ → ℕ) → Type 0
 Fresh n f own = (p : ℕ) → p < n → n ≤ own p → own p ≡ n + f p
 

@@ -21,7 +21,7 @@ pub struct Pixel {
     pub y: usize,
 }
 
-// Looks at the pixel `to`, which touches the current pixel, `at`: a new pixel, which holds its grey behind n, is pushed. The answer is h, or the
+// Looks at the pixel `to`, which touches the current pixel, `at`: a new pixel, which holds n plus its grey, is pushed. The answer is h, or the
 // level to which the flood has risen; then `at` is back on its stack.
 fn look(w: &mut [u32], t: &mut [u32], g: Shape, at: Pixel, to: Pixel, h: usize) -> usize
     requires { ⌜ Looking (g .connectivity) (g .width) (g .height) (g .n) (now w) (now t) h (at .x) (at .y) ⌝ }

@@ -24,7 +24,7 @@ encode [] = []
 encode (v ∷ vs) = varint v ++ encode vs
 
 module _ (n : ℕ) (near : ℕ → ℕ → Bool) (f : ℕ → ℕ) (xs : List ℕ) where
-  -- a node behind the root: the step back to its parent's number, its rise above the parent's level, its area
+  -- a node after the root: the step back to its parent's number, its rise above the parent's level, its area
   unfoldable pub nodeFields : ℕ → List ℕ
   unfolding parent areaOf
   nodeFields i =

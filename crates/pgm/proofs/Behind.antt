@@ -15,7 +15,7 @@ use Rattle.pgm.specs.declared.Fault.{Fault}
 use Rattle.pgm.specs.declared.Fault.the-variants.{Letters, GapOrNumber}
 use Rattle.pgm.proofs.Skipping.{mix-blank, mix-opens, mix-other, comment-inside, comment-ends}
 
--- t stands at the end of s, behind `before` bytes
+-- t stands at the end of s, after `before` bytes
 pub record Behind (t s : List ℕ) : Type 0 where
   pub before : ℕ
   pub within : before ≤ length s
@@ -138,7 +138,7 @@ module _ (file : List ℕ) (i : ℕ) where
   pub number-at : LeavesBy (number (drop i file)) file
   number-at = found-farther (number (drop i file)) (number-leaves (drop i file)) (dropped i file)
 
--- "P5" and the gap behind it
+-- "P5" and the gap after it
 pub opening-at : (file : List ℕ) (i : ℕ) → Leaves (andThen (letters (drop i file)) gap) file
 opening-at file i =
     let l = drop i file in

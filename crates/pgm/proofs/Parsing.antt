@@ -79,13 +79,13 @@ module _ (file : List ℕ) {r : Step} where
       rw (value, same, cursor-left k)
   number-went missing {v} {c} k e f = absurd (let z : _≡_ {A = ℕ} 0 1 = cc in omega arith)
 
-  -- the opening went on: the header goes on behind its gap
+  -- the opening went on: the header goes on after its gap
   pub opening-went : (x : Rest) {c : Cursor} (next : List ℕ → Parsed) → Leaves (andThen x gap) file → r ≡ openingStep file x → r ≡ Gap c
       → (onRest Letters x λ s. onGap (gap s) next) ≡ next (drop (c .at) file)
   opening-went (rest s) next k e f = rw (gap-went (gap s) k e f .left)
   opening-went malformed {c} next k e f = absurd (let z : _≡_ {A = ℕ} 0 1 = cc in omega arith)
 
--- the mix behind a blank
+-- the mix after a blank
 pub blank-went : (file s : List ℕ) {c : Cursor} {r : Step} → Went file (oneBlank s) c → r ≡ gapStep file (mix (drop (c .at) file))
     → r ≡ gapStep file (gap s)
 unfolding gap

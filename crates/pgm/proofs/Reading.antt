@@ -1,4 +1,4 @@
--- Reading a file: a plate behind a sound header, refused or read, and a file whose header is faulty.
+-- Reading a file: a plate after a sound header, refused or read, and a file whose header is faulty.
 use mathlib.Core.Path.{_≡_, refl, sym, ap, _∙_}
 use mathlib.Core.Bool.{Bool, true, false}
 use mathlib.Core.List.{List}
@@ -39,7 +39,7 @@ part s i = take-all (length s - i) (drop i s) (omega (arith, length-drop i s))
 
 -- ---- a file whose header was read
 
--- the plate behind the header begins at the cursor
+-- the plate after the header begins at the cursor
 pub record Begins (file : List ℕ) (w h greatest : ℕ) (c : Cursor) : Type 0 where
   pub parsed : header file ≡ sound w h greatest (drop (c .at) file)
   pub within : c .at ≤ length file

@@ -25,7 +25,7 @@ pixels-most w h e =
 pub product-fits : {w h : ℕ} → w ≤ maxSide → h ≤ maxSide → w * h < 4294967296
 product-fits hw hh = lt-of-le-of-lt (mul-le-mul hw hh) (lit< tt)
 
--- ---- nothing is refused behind a sound header
+-- ---- nothing is refused after a sound header
 
 refuse-none : (met : Bool) {number later : ℕ} → (number ≡ 0 → ⊥) → refuse met number later ≡ 0 → (met ≡ false) × (later ≡ 0)
 refuse-none true ne e = absurd (ne e)

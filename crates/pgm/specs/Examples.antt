@@ -100,7 +100,7 @@ cases =
     ∷ refuses 14 "........." "P5 1 32768 255 "
     ∷ refuses 14 "........." "P5 1 1 255 "
     ∷ refuses 14 "........." "P5 2 2 255 abc"
-    -- 15: bytes left over; of CR and LF behind 255 the LF is a pixel
+    -- 15: bytes left over; of CR and LF after 255 the LF is a pixel
     ∷ refuses 15 "........." "P5 1 1 255 ab"
     ∷ refuses 15 "........." "P5 1 1 255 a\n"
     ∷ refuses 15 "........." "P5 1 1 255\r\na"
@@ -131,7 +131,7 @@ cases =
     ∷ reads 1 1 "........." "P5 #\n1 1 255 a" "a........"
     ∷ reads 1 1 "........." "P5 #a\n#b\r #c\n\n1 1 255 a" "a........"
     ∷ reads 1 1 "........." "P5 #1 # 2\n1 1 255 a" "a........"
-    -- the raster begins behind one blank, whatever its first byte is
+    -- the raster begins after one blank, whatever its first byte is
     ∷ reads 1 1 "........." "P5 1 1 255 #" "#........"
     ∷ reads 1 1 "........." "P5 1 1 255  " " ........"
     ∷ reads 2 1 "........." "P5 2 1 255\n#\n" "#\n......."

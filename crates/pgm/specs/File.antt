@@ -18,7 +18,7 @@ abbrev pub faultNumber : Fault → ℕ
 faultNumber Letters = 10
 faultNumber GapOrNumber = 11
 
--- behind a sound header: 2 sizes beyond the grid; 12 the third number is not 255; 14 raster short; 15 bytes left over; 5 output shorter
+-- after a sound header: 2 sizes beyond the grid; 12 the third number is not 255; 14 raster short; 15 bytes left over; 5 output shorter
 -- than the pixels. `left` is how many bytes follow the header, `room` the output's length
 unfoldable pub rasterRefusal : ℕ → ℕ → ℕ → ℕ → ℕ → ℕ
 unfolding gridFits
@@ -34,7 +34,7 @@ refused n = record { refusal = n; width = 0; height = 0 }
 abbrev pub answered : ℕ → ℕ → ℕ → PgmRead
 answered n w h = pick (eqb n 0) (record { refusal = 0; width = w; height = h }) (refused n)
 
--- a plate is read behind a sound header: the answer r, and the output afterwards
+-- a plate is read after a sound header: the answer r, and the output afterwards
 pub record ReadPlate (w h greatest : ℕ) (raster out : List ℕ) (r : PgmRead) (after : List ℕ) : Type 0 where
   pub answer : r ≡ answered (rasterRefusal w h greatest (length raster) (length out)) w h
   pub output : after ≡ outAfter (rasterRefusal w h greatest (length raster) (length out)) raster out
@@ -52,7 +52,7 @@ abbrev pub rasterBehind : Parsed → List ℕ
 rasterBehind (sound w h greatest raster) = raster
 rasterBehind (faulty f) = []
 
--- the raster: the bytes behind the header
+-- the raster: the bytes after the header
 unfoldable pub rasterOf : List ℕ → List ℕ
 unfolding header
 rasterOf file = rasterBehind (header file)

@@ -1,5 +1,5 @@
 -- The grammar of a plate file, on lists of bytes: "P5", gap, width, gap, height, gap, 255, one blank, then the raster. Each part of it
--- takes the bytes from its first on and gives those behind it.
+-- takes the bytes from its first on and gives those after it.
 use mathlib.Core.Bool.{Bool, true, false, not, _&&_, _||_}
 use mathlib.Core.List.{List, [], _∷_}
 use Prim.Native.Nat.{ℕ, suc, _+_, _-_, _*_}
@@ -28,17 +28,17 @@ opensComment b = eqb b 35
 unfoldable pub digit : ℕ → Bool
 digit b = leb 48 b && leb b 57
 
--- what a gap leaves: the bytes behind it, or nothing where it is missing or malformed
+-- what a gap leaves: the bytes after it, or nothing where it is missing or malformed
 pub data Rest : Type 0 where
   rest : List ℕ → Rest
   malformed : Rest
 
--- a number with the bytes behind it, or nothing where it is missing or malformed
+-- a number with the bytes after it, or nothing where it is missing or malformed
 pub data Found : Type 0 where
   found : ℕ → List ℕ → Found
   missing : Found
 
--- any mix of blanks and comments; a comment runs from # through the next CR or LF, and `comment` takes the bytes behind its #
+-- any mix of blanks and comments; a comment runs from # through the next CR or LF, and `comment` takes the bytes after its #
 unfoldable mutual
   unfolding blank lineEnd
 
@@ -56,7 +56,7 @@ unfolding blank
 oneBlank [] = malformed
 oneBlank (b ∷ s) = pick (blank b) (rest s) malformed
 
--- one part of the grammar behind another
+-- one part of the grammar after another
 abbrev pub andThen : Rest → (List ℕ → Rest) → Rest
 andThen (rest s) next = next s
 andThen malformed next = malformed
@@ -71,7 +71,7 @@ unfoldable pub front : (ℕ → Bool) → List ℕ → ℕ
 front test [] = 0
 front test (b ∷ s) = elim (test b) [ true ↦ suc (front test s) | false ↦ 0 ]
 
--- the number that the digits spell behind v
+-- the number that the digits spell after v
 unfoldable pub decimal : ℕ → List ℕ → ℕ
 decimal v [] = v
 decimal v (d ∷ ds) = decimal (10 * v + (d - 48)) ds
@@ -87,7 +87,7 @@ letters [] = malformed
 letters (p ∷ []) = malformed
 letters (p ∷ five ∷ s) = pick (eqb p 80 && eqb five 53) (rest s) malformed
 
--- a header with the raster behind it, or its first fault
+-- a header with the raster after it, or its first fault
 pub data Parsed : Type 0 where
   sound : (width height greatest : ℕ) → (raster : List ℕ) → Parsed
   faulty : Fault → Parsed

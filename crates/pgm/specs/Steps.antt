@@ -25,7 +25,7 @@ abbrev pub numberStep : List ℕ → Found → Step
 numberStep file (found v s) = step.Number v (cursorAt file s)
 numberStep file missing = step.Faulty GapOrNumber
 
--- "P5" and the gap behind it
+-- "P5" and the gap after it
 abbrev pub openingStep : List ℕ → Rest → Step
 openingStep file (rest s) = gapStep file (gap s)
 openingStep file malformed = step.Faulty Letters
@@ -40,7 +40,7 @@ abbrev pub headerStep : List ℕ → Parsed → Header
 headerStep file (sound w h g s) = head.Sound w h g (cursorAt file s)
 headerStep file (faulty f) = head.Faulty f
 
--- from `at` to `end` stand one to five digits, and no digit behind them
+-- from `at` to `end` stand one to five digits, and no digit after them
 pub record Digits (file : List ℕ) (at end : ℕ) : Type 0 where
   pub starts : at ≤ length file
   pub ends : end ≡ at + front digit (drop at file)
@@ -54,7 +54,7 @@ leftBy file (Past c) = rest (drop (c .at) file)
 leftBy file (Paused c) = mix (drop (c .at) file)
 leftBy file Unended = malformed
 
--- where it stopped: within the file, and at least a byte behind for each turn where the turns were used up
+-- where it stopped: within the file, and at least a byte after for each turn where the turns were used up
 abbrev pub Within : List ℕ → ℕ → ℕ → Skip → Type 0
 Within file from turns (Past c) = c .at ≤ length file
 Within file from turns (Paused c) = (from + turns ≤ c .at) × (c .at ≤ length file)

@@ -28,7 +28,7 @@ pub enum Fault {
     GapOrNumber,
 }
 
-// A header step's answer: what it found, with the cursor behind it, or what is wrong.
+// A header step's answer: what it found, with the cursor after it, or what is wrong.
 pub enum Step {
     Number(u32, Cursor),
     Gap(Cursor),
@@ -37,7 +37,7 @@ pub enum Step {
 
 // How far skipping blanks and comments came.
 pub enum Skip {
-    // To the first byte behind them.
+    // To the first byte after them.
     Past(Cursor),
     // To a comment, where the turns were used up.
     Paused(Cursor),
@@ -159,7 +159,7 @@ fn no_header(step: Step) -> Header
 }
 
 impl Cursor {
-    // Skips blanks and, where a comment follows them, that comment and what is behind it.
+    // Skips blanks and, where a comment follows them, that comment and what is after it.
     fn skip_blanks(self, file: &[u8], turns: usize) -> Skip
         requires { ⌜ self .at ≤ length (now file) ⌝ }
         ensures { λ r. ⌜ Skipped (now (file .entry)) (self .at) turns (mix (drop (self .at) (now (file .entry)))) r ⌝ }
@@ -177,7 +177,7 @@ impl Cursor {
         Cursor { at: at + 1 }.skip_comment(file, turns - 1)
     }
 
-    // Skips what is left of a comment, and the blanks and comments behind it.
+    // Skips what is left of a comment, and the blanks and comments after it.
     fn skip_comment(self, file: &[u8], turns: usize) -> Skip
         requires { ⌜ self .at ≤ length (now file) ⌝ }
         ensures { λ r. ⌜ Skipped (now (file .entry)) (self .at) turns (comment (drop (self .at) (now (file .entry)))) r ⌝ }
@@ -248,7 +248,7 @@ impl Cursor {
         Step::Number(value_at(file, at, end), Cursor { at: end })
     }
 
-    // "P5" and the gap behind it.
+    // "P5" and the gap after it.
     fn opening(self, file: &[u8]) -> Step
         ensures { λ r. ⌜ r ≡ openingStep (now (file .entry)) (letters (drop (self .at) (now (file .entry)))) ⌝ }
     {
@@ -329,7 +329,7 @@ fn grid_fits(width: u32, height: u32) -> bool
     width * height <= 16777216
 }
 
-// The refusal behind a sound header, which `left` bytes follow, where the output's length is `room`.
+// The refusal after a sound header, which `left` bytes follow, where the output's length is `room`.
 fn raster_refusal(width: u32, height: u32, greatest: u32, left: usize, room: usize) -> u32
     ensures { λ r. ⌜ r ≡ rasterRefusal width height greatest left room ⌝ }
 {
@@ -384,7 +384,7 @@ fn copy_over(bytes: &[u8], out: &mut [u8])
     }
 }
 
-// Reads the plate whose raster begins at `at`, behind a sound header.
+// Reads the plate whose raster begins at `at`, after a sound header.
 fn read_plate(
     file: &[u8],
     at: usize,

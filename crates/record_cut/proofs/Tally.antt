@@ -93,6 +93,6 @@ pub tally-cong : (c v c′ v′ : ℕ → ℕ) (k a : ℕ) → ((j : ℕ) → j 
 unfolding tally
 tally-cong c v c′ v′ k a e = sum-cong k (λ (j : ℕ). pick (eqb (c j) a) (v j) 0) (λ (j : ℕ). pick (eqb (c′ j) a) (v′ j) 0) e
 
--- a table behind which all is as it was
+-- a table after which all is as it was
 pub over-drop : (m : ℕ) (g : ℕ → ℕ) (d : List ℕ) → drop m (over (table m g) d) ≡ drop m d
 over-drop m g d = drop-at (table m g) (drop (length (table m g)) d) m (length-table m g) ∙ rw (length-table m g)

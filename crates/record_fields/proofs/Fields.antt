@@ -86,7 +86,7 @@ module _ (k wd ht n : ℕ) (w : List ℕ) (count : ℕ) (some-nodes : 0 < count)
   pub column-end : (i : ℕ) → 3 * count + 3 + n ≤ i → length (columnFields k wd ht n w count) ≤ i
   column-end i l = omega (arith, column-length)
 
-  -- behind the first six
+  -- after the first six
   behind-six : (j : ℕ) → nth (columnFields k wd ht n w count) (6 + j)
       ≡ nth (gather (count - 1) (λ (i : ℕ). nodeColumns n w (suc i)) ++ table n (col OWN n w)) j
   unfolding columnFields

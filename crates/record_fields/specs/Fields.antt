@@ -9,7 +9,7 @@ use Rattle.work_columns.specs.Layout.{AREA, GREY, LEVEL, OWN, PARENT}
 abbrev pub plateIn : ℕ → List ℕ → List ℕ
 plateIn n w = table n (col GREY n w)
 
--- a node behind the root, as `nodeFields` has it
+-- a node after the root, as `nodeFields` has it
 unfoldable pub nodeColumns : ℕ → List ℕ → ℕ → List ℕ
 nodeColumns n w i =
     let u = col PARENT n w i in
@@ -28,7 +28,7 @@ pub record Raised (n : ℕ) (w : List ℕ) (i : ℕ) : Type 0 where
   pub back : col PARENT n w i ≤ i
   pub rises : col LEVEL n w (col PARENT n w i) ≤ col LEVEL n w i
 
--- so it is of each node behind the root
+-- so it is of each node after the root
 pub record Spelt (n : ℕ) (w : List ℕ) (count : ℕ) : Type 0 where
   pub room : Room w n
   pub some-nodes : 0 < count

@@ -19,7 +19,7 @@ const PARENT: usize = 5;
 
 const AREA: usize = 7;
 
-// Of node i, behind the root: 0 the step back to its parent's number, 1 its rise above the parent's level, 2 its area.
+// Of node i, after the root: 0 the step back to its parent's number, 1 its rise above the parent's level, 2 its area.
 fn node_field(w: &[u32], n: usize, i: usize, part: usize) -> usize
     requires { ⌜ Raised n (now w) i ⌝ }
     requires { ⌜ part < 3 ⌝ }

@@ -1,4 +1,4 @@
--- Reading the nodes behind the root: one node, and the loop over them.
+-- Reading the nodes after the root: one node, and the loop over them.
 use mathlib.Core.Path.{_≡_, refl, sym, ap, _∙_}
 use mathlib.Core.List.{List, [], _∷_, _++_}
 use Prim.Native.Nat.{ℕ, suc, _+_, _-_, _≤_, _<_}

@@ -28,7 +28,7 @@ more v (good vs next) = good (v ∷ vs) next
 more v (bad number) = bad number
 
 module _ (s : List ℕ) (pixels : ℕ) where
-  -- `left` nodes behind those whose levels are known: the step back to the parent's number (1 to the own number), the rise above the parent's
+  -- `left` nodes after those whose levels are known: the step back to the parent's number (1 to the own number), the rise above the parent's
   -- level (1 to the greatest grey minus that level), the area (1 to the pixels). It gives the levels of all nodes
   unfoldable pub levelsFrom : ℕ → List ℕ → ℕ → Values
   levelsFrom zero levels at = good levels at
@@ -46,7 +46,7 @@ module _ (s : List ℕ) (pixels : ℕ) where
 
 -- ---- the whole record
 
--- what the bytes spell, or a refusal: `early` by 6 or ahead of it, so that no work has begun; `late` behind it, with the pixels
+-- what the bytes spell, or a refusal: `early` by 6 or ahead of it, so that no work has begun; `late` after it, with the pixels
 pub data Parsed : Type 0 where
   early : (number : ℕ) → Parsed
   late : (number pixels : ℕ) → Parsed
@@ -70,7 +70,7 @@ module _ (s : List ℕ) where
   fromOwn k w h levels at =
       onValues (greysFrom s (w * h) levels (w * h) at) (lateOf (w * h)) λ f next. pick (ltb next (length s)) (late 23 (w * h)) (plate k w h f)
 
-  -- the nodes behind the root
+  -- the nodes after the root
   abbrev pub fromNodes : (k w h count level at : ℕ) → Parsed
   fromNodes k w h count level at = onValues (levelsFrom s (w * h) (count - 1) (level ∷ []) at) (lateOf (w * h)) (fromOwn k w h)
 

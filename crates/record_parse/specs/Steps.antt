@@ -47,7 +47,7 @@ pub record NodeRead (s : List ℕ) (at n : ℕ) (w w′ : List ℕ) (i : ℕ) (r
   pub known : (next : ℕ) → r ≡ Next next → Known n w′ (suc i)
   pub rest : (left : ℕ) → levelsFrom s n (suc left) (levelsIn n w i) at ≡ onStep r (levelsFrom s n left (levelsIn n w′ (suc i)))
 
--- all nodes behind the root are read
+-- all nodes after the root are read
 pub record NodesRead (s : List ℕ) (at n : ℕ) (w w′ : List ℕ) (count : ℕ) (r : Step) : Type 0 where
   pub frame : Frame n w w′
   pub known : (next : ℕ) → r ≡ Next next → Known n w′ count

@@ -11,7 +11,7 @@ use record_varint::Field;
 pub enum Parse {
     // Refused by 6 or ahead of it, so that no work has begun: the specification's number.
     Early(u32),
-    // Refused behind 6: the specification's number, and the pixels.
+    // Refused after 6: the specification's number, and the pixels.
     Late(u32, usize),
     // A plate: width, height, connectivity.
     Plate(u32, u32, u32),
@@ -31,7 +31,7 @@ const GREY: usize = 0;
 // The column of the levels, by node.
 const LEVEL: usize = 3;
 
-// Reads node i, behind the root, and stores its level.
+// Reads node i, after the root, and stores its level.
 fn read_node(s: &[u8], at: usize, work: &mut [u32], n: usize, i: usize) -> Step
     requires { ⌜ Known n (now work) i × (i < n) ⌝ }
     ensures { λ r. ⌜ NodeRead (now (s .entry)) at n (now (work .entry)) (now (work .exit)) i r ⌝ }
@@ -53,7 +53,7 @@ fn read_node(s: &[u8], at: usize, work: &mut [u32], n: usize, i: usize) -> Step
     Step::Next(at3)
 }
 
-// Reads the nodes behind the root, whose level is stored, and stores their levels.
+// Reads the nodes after the root, whose level is stored, and stores their levels.
 fn read_nodes(s: &[u8], start: usize, work: &mut [u32], n: usize, count: usize) -> Step
     requires { ⌜ Known n (now work) 1 × ((1 ≤ count) × (count ≤ n)) ⌝ }
     ensures { λ r. ⌜ NodesRead (now (s .entry)) start n (now (work .entry)) (now (work .exit)) count r ⌝ }

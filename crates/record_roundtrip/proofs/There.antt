@@ -86,7 +86,7 @@ module _ {k w h : ℕ} {f : List ℕ} (pl : Plate k w h f) (s : List ℕ) where
   count-low : length xs ≤ n
   count-low = le-trans (distinct-area n xs (nodes-distinct grid nodes) (nodes .inside)) (area-le n (elem xs))
 
-  -- ---- the nodes behind the root
+  -- ---- the nodes after the root
 
   record Through (left : ℕ) (levels : List ℕ) (at : ℕ) (rest : List ℕ) : Type 0 where
     next : ℕ

@@ -12,7 +12,7 @@ use Rattle.record_parse.specs.declared.Parse.{Parse}
 use Rattle.record_tree.specs.declared.Found.{Found}
 use Rattle.record_tree.specs.declared.Found.the-variants.{Early, Late, Tree}
 
--- the answer and the work space, for what the definitions find: nothing has changed ahead of the work; behind 6 only the eight columns have; the tree of
+-- the answer and the work space, for what the definitions find: nothing has changed ahead of the work; after 6 only the eight columns have; the tree of
 -- an accepted plate stands in them
 pub data FoundIs : Parsed → List ℕ → List ℕ → Found → Type 0 where
   ahead : {number : ℕ} {work : List ℕ} → FoundIs (early number) work work (Early number)

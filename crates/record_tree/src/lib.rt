@@ -11,7 +11,7 @@ use record_parse::Parse;
 pub enum Found {
     // Refused by 6 or ahead of it, so that no work has begun: the specification's number.
     Early(u32),
-    // Refused behind 6: the specification's number, and the pixels.
+    // Refused after 6: the specification's number, and the pixels.
     Late(u32, usize),
     // A plate whose tree stands in the work space: width, height, connectivity, the number of nodes.
     Tree(u32, u32, u32, usize),

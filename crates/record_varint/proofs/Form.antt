@@ -64,7 +64,7 @@ module _ (l : List ℕ) (small : value l < fieldBound) (form : starts (varint (v
   pub form-last : 0 < lead l → 0 < getD l (lead l) 0
   form-last = subst (λ (t : List ℕ). 0 < lead t → 0 < getD t (lead t) 0) (sym whole) (varint-last (value l) (drop (length (varint (value l))) l) small)
 
--- ---- such bytes are those that end with no zero group behind others
+-- ---- such bytes are those that end with no zero group after others
 abbrev pub Bytes : List ℕ → Type 0
 Bytes l = (i : ℕ) → getD l i 0 < 256
 

@@ -14,14 +14,14 @@ pub struct Case {
     pub at: usize,
 }
 
-// A number, whether a star follows it, and the place behind the byte that follows.
+// A number, whether a star follows it, and the place after the byte that follows.
 struct Number {
     value: u32,
     star: bool,
     next: usize,
 }
 
-// Some bytes of one value, and the place behind them.
+// Some bytes of one value, and the place after them.
 struct Run {
     value: u8,
     count: u32,
@@ -87,7 +87,7 @@ fn run_at(line: &[u8], at: usize) -> Run
     }
 }
 
-// Puts `count` bytes from `from` on, as far as there is room, and gives the place behind them.
+// Puts `count` bytes from `from` on, as far as there is room, and gives the place after them.
 fn put_run(bytes: &mut [u8], from: usize, value: u8, count: u32) -> usize
     requires { ⌜ from ≤ length (now bytes) ⌝ }
     ensures { λ r. ⌜ r ≤ length (now (bytes .entry)) ⌝ }

@@ -1,4 +1,4 @@
-// Numbers printed one behind the other, a space in front of each; equal ones in a row as `v*n`.
+// Numbers printed one after the other, a space in front of each; equal ones in a row as `v*n`.
 ghost use Prim.Native.Nat.{_+_, _≤_, _<_};
 use libc::STDOUT_FILENO;
 
@@ -13,7 +13,7 @@ pub fn print_number(n: u64) {
     io::print_decimal(STDOUT_FILENO, n);
 }
 
-// A bar, behind which the next buffer is printed.
+// A bar, after which the next buffer is printed.
 pub fn print_bar() {
     io::write_all(STDOUT_FILENO, b" |");
 }

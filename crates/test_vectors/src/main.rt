@@ -1,6 +1,6 @@
 // Runs the cases on standard input and prints a line for each. A case is a line: the operation, six numbers (width, height, connectivity,
 // limit, places of the output, places of the work space) and the bytes of the plate, the record or the file, all in decimal and parted by one
-// space; `v*n` stands for n bytes v. It prints the operation and then, behind a bar each, the answer and every lent buffer as it was left, in the
+// space; `v*n` stands for n bytes v. It prints the operation and then, after a bar each, the answer and every lent buffer as it was left, in the
 // same notation. An output holds 170 before, a table or a column 9, the work space 7.
 //
 //     open, close, maxima, nodes, write    a plate. Column `limit` of the four of `nodes` is lent a place short

@@ -18,7 +18,7 @@ sets-sets l i (x ∷ a) b =
 pub put-length : {text text′ bytes : List ℕ} {at next : ℕ} → Put text at bytes text′ next → length text′ ≡ length text
 put-length {text} {bytes = bytes} {at = at} p = ap length (p .stored) ∙ length-sets text at bytes
 
--- one piece behind another is one piece
+-- one piece after another is one piece
 pub put-put : {text text′ text″ a b : List ℕ} {at mid next : ℕ} → Put text at a text′ mid → Put text′ mid b text″ next → Put text at (a ++ b) text″ next
 put-put {text} {a = a} {b = b} {at = at} p q = record {
   behind = omega (arith, p .behind, q .behind, length-append a b);
@@ -61,7 +61,7 @@ unfolding further
 further-more [] v = sym (append-nil (field v))
 further-more (u ∷ vs) v = append-assoc (field u) (further vs) (field v) ∙ ap (λ (l : List ℕ). field u ++ l) (further-more vs v)
 
--- the first field of a line and some numbers behind it are put
+-- the first field of a line and some numbers after it are put
 pub record Begun (text : List ℕ) (at : ℕ) (first numbers text′ : List ℕ) (next : ℕ) : Type 0 where
   pub put : Put text at (first ++ further numbers) text′ next
 

@@ -1,4 +1,4 @@
--- Decimal numbers, and a line of text: its first field, each further field behind one space, and LF. A text is a list of bytes.
+-- Decimal numbers, and a line of text: its first field, each further field after one space, and LF. A text is a list of bytes.
 use mathlib.Core.Path.{_≡_}
 use mathlib.Core.Bool.{true, false}
 use mathlib.Core.List.{List, [], _∷_, _++_}
@@ -30,12 +30,12 @@ unfolding decimal
 further [] = []
 further (v ∷ vs) = field v ++ further vs
 
--- a line: its first field, the numbers behind it, LF
+-- a line: its first field, the numbers after it, LF
 unfoldable pub line : List ℕ → List ℕ → List ℕ
 unfolding further
 line first numbers = (first ++ further numbers) ++ (10 ∷ [])
 
--- bytes were put into a text from the place `at` on: what stands there now, and the place behind them, which is no further than the end
+-- bytes were put into a text from the place `at` on: what stands there now, and the place after them, which is no further than the end
 pub record Put (text : List ℕ) (at : ℕ) (bytes text′ : List ℕ) (next : ℕ) : Type 0 where
   pub behind : next ≡ at + length bytes
   pub room : next ≤ length text

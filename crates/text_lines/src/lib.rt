@@ -1,4 +1,4 @@
-// Text: bytes, words and decimal numbers, put one behind the other into a lent slice. Each function gives the place behind what it put. They
+// Text: bytes, words and decimal numbers, put one after the other into a lent slice. Each function gives the place after what it put. They
 // serve the crate `sizetext`, which knows that there is room; they are not for end users.
 ghost use Prim.Native.Nat.{_+_, _≤_, _<_};
 ghost use mathlib.Core.List.{[], _∷_};

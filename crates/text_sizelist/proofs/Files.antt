@@ -68,7 +68,7 @@ not-false : (b : Bool) → not b ≡ false → b ≡ true
 not-false true e = refl
 not-false false e = sym e
 
--- nothing is refused behind a sound header
+-- nothing is refused after a sound header
 raster-none : (w h greatest room : ℕ) (raster : List ℕ) → rasterRefusal w h greatest (length raster) room ≡ 0 → Sized w h room raster
 unfolding rasterRefusal
 raster-none w h greatest room raster e =

@@ -42,7 +42,7 @@ pub size-some : (counted lost : List ℕ) (i : ℕ) → (nth counted i ≡ 0 →
 unfolding areaLine
 size-some counted lost i e = rw (lt-ltb 0 (nth counted i) (omega arith), add-one i)
 
--- what stands behind a table's answer has no line
+-- what stands after a table's answer has no line
 sizes-over : (n : ℕ) (counted lost out out′ : List ℕ) → length counted ≡ n → length lost ≡ n
     → gather n (sizeLine (over counted out) (over lost out′)) ≡ gather n (sizeLine counted lost)
 sizes-over n counted lost out out′ a b =

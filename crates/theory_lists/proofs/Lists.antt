@@ -228,7 +228,7 @@ rising-same h [] (y ∷ ys) r s a b = absurd (b y (either-left (eqb y y) (elem y
 rising-same h (x ∷ xs) [] r s a b = absurd (a x (either-left (eqb x x) (elem xs x) (eqb-refl x)))
 rising-same h (x ∷ xs) (y ∷ ys) r s a b = step (rising-same h xs ys (r .1) (s .1) to from)
   where
-    -- the two heads are one: each is the other, or behind it
+    -- the two heads are one: each is the other, or after it
     head : x ≡ y
     head = elim (either-cases (eqb y x) (elem ys x) (a x (either-left (eqb x x) (elem xs x) (eqb-refl x)))) [
       | inl e ↦ let u : y ≡ x = eqb→eq y x e in omega arith
@@ -255,7 +255,7 @@ rising-same h (x ∷ xs) (y ∷ ys) r s a b = step (rising-same h xs ys (r .1) (
 
 -- ---- a list that rises, and the first part of it
 
--- ys rises and has all of xs, and what ys has that is not behind a member of xs is in xs: then ys begins with xs
+-- ys rises and has all of xs, and what ys has that is not after a member of xs is in xs: then ys begins with xs
 pub rising-prefix : (h : ℕ → ℕ) (xs ys : List ℕ) → Rising h xs → Rising h ys → ((q : ℕ) → T (elem xs q) → T (elem ys q))
     → ((p q : ℕ) → T (elem xs p) → T (elem ys q) → h q ≤ h p → T (elem xs q)) → (i : ℕ) → i < length xs → (i < length ys) × (nth ys i ≡ nth xs i)
 rising-prefix h [] ys r s a b i l = absurd (not-suc-le-zero l)

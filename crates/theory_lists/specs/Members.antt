@@ -18,7 +18,7 @@ pub record Lowest (n : ℕ) (s : ℕ → Bool) (r : ℕ) : Type 0 where
   pub passes : r < n → T (s r)
   pub least : (q : ℕ) → q < n → T (s q) → r ≤ q
 
--- each member's key is smaller than the keys of all that stand behind it
+-- each member's key is smaller than the keys of all that stand after it
 abbrev pub Rising : (ℕ → ℕ) → List ℕ → Type 0
 Rising h [] = Unit {0}
 Rising h (x ∷ xs) = ((q : ℕ) → T (elem xs q) → h x < h q) × Rising h xs

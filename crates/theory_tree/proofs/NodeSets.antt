@@ -119,7 +119,7 @@ module _ {n : ℕ} {near : ℕ → ℕ → Bool} (grid : Grid n near) {f : ℕ �
         above pos (lower-ancestor b (parent n near f xs i) j p (omega arith) (omega arith) up lp (parent-holds i p l lp ti) tj)
   ]
 
-  -- no node that holds p comes behind p's own
+  -- no node that holds p comes after p's own
   pub holds-before-own : (j p : ℕ) → j < length xs → p < n → T (holds n near f xs j p) → j ≤ own n near f xs p
   holds-before-own j p lj l t = elim (decLe j (own n near f xs p)) [
     | yes h ↦ h

@@ -21,7 +21,7 @@ pub record Put (n : ℕ) (g g′ : ℕ → ℕ) (i v : ℕ) : Type 0 where
   pub here : g′ i ≡ v
   pub other : (j : ℕ) → j < n → (j ≡ i → ⊥) → g′ j ≡ g j
 
--- w′ is as long as w, and the same behind its eight columns
+-- w′ is as long as w, and the same after its eight columns
 pub record Frame (n : ℕ) (w w′ : List ℕ) : Type 0 where
   pub len : length w′ ≡ length w
   pub tail : drop (8 * n) w′ ≡ drop (8 * n) w

@@ -294,7 +294,7 @@ impl<const CHECKED: bool> Flood<'_, CHECKED> {
         }
     }
 
-    /// Counts the pixels of each level, marks each pixel as not seen (it holds its grey behind the number of pixels), and
+    /// Counts the pixels of each level, marks each pixel as not seen (it holds its grey after the number of pixels), and
     /// gives each level its part of the stack.
     fn prepare(&mut self) {
         let pixels = self.columns.own.0.len() as u32;

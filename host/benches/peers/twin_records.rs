@@ -53,7 +53,7 @@ fn field_size(value: u32) -> usize {
     }
 }
 
-/// Writes a field at a place, and gives the place behind it.
+/// Writes a field at a place, and gives the place after it.
 fn put_field(out: &mut [u8], mut at: usize, mut value: u32) -> usize {
     while value > 127 {
         out[at] = (128 + value % 128) as u8;
@@ -64,7 +64,7 @@ fn put_field(out: &mut [u8], mut at: usize, mut value: u32) -> usize {
     at + 1
 }
 
-/// Reads the field at a place, and moves the place behind it.
+/// Reads the field at a place, and moves the place after it.
 fn take_field(bytes: &[u8], at: &mut usize, least: u32, greatest: u32) -> u32 {
     let length = bytes[*at..]
         .iter()
@@ -85,7 +85,7 @@ fn take_field(bytes: &[u8], at: &mut usize, least: u32, greatest: u32) -> u32 {
     value
 }
 
-/// Compares a field with the bytes at a place; the place behind it.
+/// Compares a field with the bytes at a place; the place after it.
 fn same_field(bytes: &[u8], mut at: usize, mut value: u32) -> Option<usize> {
     while value > 127 {
         if u32::from(*bytes.get(at)?) != 128 + value % 128 {

@@ -33,7 +33,7 @@ fn read(record: &[u8], cases: &mut Vec<Case>) {
     cases.push(Case::on_bytes("read", 12, 97, record));
 }
 
-/// Every truncation, and bytes behind the end.
+/// Every truncation, and bytes after the end.
 fn truncated(record: &[u8], cases: &mut Vec<Case>) {
     for length in 0..=record.len() {
         all(&record[..length], cases);
@@ -121,7 +121,7 @@ fn ranged(record: &[u8], cases: &mut Vec<Case>) {
     }
 }
 
-/// Little work space: 6 stands behind the node count and ahead of the rest.
+/// Little work space: 6 stands after the node count and ahead of the rest.
 fn spaced(record: &[u8], cases: &mut Vec<Case>) {
     for length in 0..8 {
         for room in [0, 95] {

@@ -63,7 +63,7 @@ pub fn work_untouched(work: &[u32]) -> bool {
     work.iter().all(|&entry| entry == WORD)
 }
 
-/// Is the work space as a return behind 6 leaves it?
+/// Is the work space as a return after 6 leaves it?
 pub fn work_zeroed(work: &[u32], pixels: usize) -> bool {
     work[..8 * pixels].iter().all(|&entry| entry == 0) && work_untouched(&work[8 * pixels..])
 }

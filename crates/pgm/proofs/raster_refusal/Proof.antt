@@ -1,4 +1,4 @@
--- The refusals behind a sound header, in their order.
+-- The refusals after a sound header, in their order.
 use mathlib.Core.Path.{_≡_, sym, _∙_}
 use mathlib.Core.Bool.{true}
 use native.Mathlib.Omega.{arith}

@@ -1,4 +1,4 @@
--- A plate file: its header is faulty, or the plate behind it is refused or read.
+-- A plate file: its header is faulty, or the plate after it is refused or read.
 use borrow.Author.Needs.{needs}
 use denote.Ref.{now}
 use Rattle.pgm.proofs.Reading.{begins, file-refused, file-read}

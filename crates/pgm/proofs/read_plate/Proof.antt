@@ -1,4 +1,4 @@
--- A plate behind a sound header.
+-- A plate after a sound header.
 use borrow.Author.Needs.{needs}
 use denote.Ref.{now}
 use lib.ListN.{length-drop}

@@ -114,7 +114,7 @@ module _ {M : Type 1} (𝓤 : URA M) (H : Heap 𝓤) (A : Atoms 𝓤) (W : Given
   abbrev after : ℕ → List Node
   after i = filled (standing n ws) ys i
 
-  -- what the work space owns, and what all the parameters behind the list own
+  -- what the work space owns, and what all the parameters after the list own
   abbrev Space : Fml
   Space = ShrSlice (named 1) κ′ u32 .own work (s′ ∷ [])
 

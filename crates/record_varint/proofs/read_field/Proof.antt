@@ -8,7 +8,7 @@ use Rattle.record_varint.proofs.Position.{Formed, read-unended, read-ma
 use Rattle.record_varint.proofs.read_field.Statement.{statement}
 use Rattle.record_varint.proofs.read_field.Tie as tie
 
--- ---- the places behind the tests
+-- ---- the places after the tests
 -- the field's end was found in the bytes
 abbrev ended : tie.Else3 → tie.Else1
 ended c = c .before .before .before .before

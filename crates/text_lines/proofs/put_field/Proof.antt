@@ -1,4 +1,4 @@
--- `text_lines::put_field` meets its contract: the space, and the number behind it.
+-- `text_lines::put_field` meets its contract: the space, and the number after it.
 use native.Mathlib.Omega.{arith}
 use borrow.Author.Needs.{needs}
 use Rattle.text_lines.proofs.Pieces.{put-put}

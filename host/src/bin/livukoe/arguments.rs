@@ -159,7 +159,7 @@ pub fn parse(words: impl Iterator<Item = OsString>) -> Result<Request, String> {
     given.into_command(form).map(Request::Run)
 }
 
-/// The words behind a command's name.
+/// The words after a command's name.
 #[derive(Default)]
 struct Given {
     help: bool,

@@ -17,7 +17,7 @@ enum-known-first c = search needs
 returns : tie.Need-returns
 returns c = blank-stopped _ _ (c .before .blank .ensures) (c .match .keys2)
 
--- behind the blank
+-- after the blank
 went : (c : tie.After-known-told)
     → Went (now (c .before .before .before .before .before .args .file))
     (oneBlank (drop (c .before .before .before .before .before .args .self .at) (now (c .before .before .before .before .before .args .file))))

@@ -1,4 +1,4 @@
--- "P5" and the gap behind it.
+-- "P5" and the gap after it.
 use mathlib.Core.Path.{sym, ap, _∙_}
 use borrow.Author.Needs.{needs}
 use Rattle.pgm.specs.Steps.{openingStep}

@@ -1,4 +1,4 @@
--- The header, step by step: what is left of it behind each step that went on.
+-- The header, step by step: what is left of it after each step that went on.
 use mathlib.Core.Path.{_≡_, refl}
 use mathlib.Core.List.{List}
 use Prim.Native.Nat.{ℕ}
@@ -36,7 +36,7 @@ whole st = header (drop (st .args .self .at) (bytes st))
 abbrev left : tie.Start → Cursor → List ℕ
 left st cursor = drop (cursor .at) (bytes st)
 
--- ---- behind each step: where the function began, and the cursor
+-- ---- after each step: where the function began, and the cursor
 
 abbrev st₁ : tie.After-known-told → tie.Start
 st₁ c = c .before .before .before .before .before
@@ -103,7 +103,7 @@ h₆ c = h₅ (c .before .before .before .before)
 abbrev g₆ : tie.After-known-told6 → ℕ
 g₆ c = c .before .s6 .given .0 .0
 
--- ---- what is left of the header behind each step
+-- ---- what is left of the header after each step
 
 at₁ : (c : tie.After-known-told) → whole (st₁ c) ≡ fromWidth (left (st₁ c) (c₁ c))
 at₁ c = opening-on (bytes (st₁ c)) (st₁ c .args .self .at) refl (c .before .before .before .opening .ensures) (c .before .s1 .given .1)
