@@ -46,7 +46,7 @@ use Rattle.plate_entries.specs.Entries.{EntriesListed}
 use Rattle.plate_entries.proofs.Node as T
 use Rattle.plate_entries.proofs.node_entries as callee
 use Rattle.plate_entries.proofs.node_entries.Symbol as callee-def
-use Rattle.plate_entries.proofs.node_entries.Symbol.{name as #entries·node-entries}
+use Rattle.plate_entries.proofs.node_entries.Symbol.{name as #plate-entries·node-entries}
 use Rattle.plate_entries.proofs.node_entries.Met as callee-thm
 use Rattle.livukoe.proofs.livukoe_node_entries.Key.{name as #livukoe·livukoe-node-entries}
 use Rattle.livukoe.proofs.livukoe_node_entries as listing
@@ -123,7 +123,7 @@ module _ {M : Type 1} (𝓤 : URA M) (H : Heap 𝓤) (A : Atoms 𝓤) (W : Given
         owned ! u32 (Is u32) (uint-makes 𝓤 H A W w32) k _ (refl, k-fits) $ fjoin ! $ owned ! u32 (Is u32) (uint-makes 𝓤 H A W w32) h _ (refl, h-fits) $ fjoin ! $ owned ! u32 (Is u32) (uint-makes 𝓤 H A W w32) w _ (refl, w-fits) $ fjoin ! $
         move ! (1 ∷ 0 ∷ []) $ fjoin ! $ done !
 
-    module _ (C : Calls 𝓤 H) (Λ : Loops 𝓤 H) (fm : FmC 𝓤 H (W .laws) C) (known : Triple 𝓤 (C #entries·node-entries) (Listing 𝓤 H A mem run)) where
+    module _ (C : Calls 𝓤 H) (Λ : Loops 𝓤 H) (fm : FmC 𝓤 H (W .laws) C) (known : Triple 𝓤 (C #plate-entries·node-entries) (Listing 𝓤 H A mem run)) where
       walk : ent 𝓤 (onEntry 𝓤 H A listing.signature (κ₀, (κ₁, (κ₂, tt))) (q₀, (q₁, (q₂, tt))) a vals) (WpFn 𝓤 H C Λ code.function (s₀ ∷ vint w32 w ∷ vint w32 h ∷ vint w32 k ∷ s₁ ∷ s₂ ∷ []) Post)
       walk =
           qed W ((‵ (flft κ₀ q₀) ⊛ (‵ (flft κ₁ q₁) ⊛ (‵ (flft κ₂ q₂) ⊛ ‵ ftrue))) ∷ ‵ Owned ∷ []) ∵
@@ -157,7 +157,7 @@ module _ {M : Type 1} (𝓤 : URA M) (H : Heap 𝓤) (A : Atoms 𝓤) (W : Given
           move ! (13 ∷ 14 ∷ []) $ free1 ! $ move ! (11 ∷ 12 ∷ []) $ free1 ! $ move ! (9 ∷ 10 ∷ []) $ free1 ! $ move ! (7 ∷ 8 ∷ []) $ free1 ! $ move ! (5 ∷ 6 ∷ []) $ free1 ! $
           free0 ! $ keep ! (1 ∷ 4 ∷ 3 ∷ 2 ∷ 0 ∷ []) $ by ! (exits r (zs .1 .1 .1 .1 .0) (zs .1 .1 .1 .1 .1 .0) len₁ len₂ e)))))))))))))))))))
 
-module _ {M : Type 1} (𝓤 : URA M) (H : Heap 𝓤) (A : Atoms 𝓤) (W : Given 𝓤 H A) (mem : Memory → SProp 𝓤) (run : Routine → Fun 𝓤) (𝓣 : Tables 𝓤 H) (known : Triple 𝓤 (𝓣 .C #entries·node-entries) (Listing 𝓤 H A mem run)) where
+module _ {M : Type 1} (𝓤 : URA M) (H : Heap 𝓤) (A : Atoms 𝓤) (W : Given 𝓤 H A) (mem : Memory → SProp 𝓤) (run : Routine → Fun 𝓤) (𝓣 : Tables 𝓤 H) (known : Triple 𝓤 (𝓣 .C #plate-entries·node-entries) (Listing 𝓤 H A mem run)) where
   node-entries-walks : Walks 𝓤 H A listing.ended stayed (WpFn 𝓤 H (𝓣 .C) (𝓣 .Λ) code.function) (listing.clauses 𝓤 H A mem run)
   node-entries-walks = walked 𝓤 H A listing.ended stayed (listing.clauses 𝓤 H A mem run) (WpFn 𝓤 H (𝓣 .C) (𝓣 .Λ) code.function)
       (λ κs. (slice-vals, (uint-vals w32, (uint-vals w32, (uint-vals w32, (slice-vals, (slice-vals, tt)))))))
@@ -190,4 +190,4 @@ livukoe-node-entries-spec 𝓤 H 𝓜 𝓖 𝓡 =
     entered 𝓤 H (tripleOf 𝓤 H (𝓖 .A) listing.signature (listing.spec 𝓤 H (𝓖 .A) (𝓜 .mem) (𝓡 .run)))
     (tables 𝓤 H 𝓜 𝓡 code.env .C) (tables 𝓤 H 𝓜 𝓡 code.env .Λ) #livukoe·livukoe-node-entries code.function (code.unfolded 𝓤 H 𝓜 𝓡)
     (node-entries-meets 𝓤 H (𝓖 .A) (givenOf 𝓤 H 𝓜 𝓖) (𝓜 .mem) (𝓡 .run) (tablesOf 𝓤 H 𝓜 (tables 𝓤 H 𝓜 𝓡 code.env))
-    (cited 𝓤 H (Listing 𝓤 H (𝓖 .A) (𝓜 .mem) (𝓡 .run)) 𝓜 𝓡 code.env #entries·node-entries callee-def.routine code.calls-entries·node-entries (callee-thm.met 𝓤 H 𝓜 𝓖 𝓡)))
+    (cited 𝓤 H (Listing 𝓤 H (𝓖 .A) (𝓜 .mem) (𝓡 .run)) 𝓜 𝓡 code.env #plate-entries·node-entries callee-def.routine code.calls-plate-entries·node-entries (callee-thm.met 𝓤 H 𝓜 𝓖 𝓡)))

@@ -56,9 +56,9 @@ use Rattle.plate_entries.proofs.Node as T
 use Rattle.plate_entries.proofs.Node.Laws as T′
 use Rattle.plate_entries.proofs.standing as made
 use Rattle.plate_entries.proofs.standing.Symbol as made-def
-use Rattle.plate_entries.proofs.standing.Symbol.{name as #entries·standing}
+use Rattle.plate_entries.proofs.standing.Symbol.{name as #plate-entries·standing}
 use Rattle.plate_entries.proofs.standing.Met as made-thm
-use Rattle.plate_entries.proofs.fill.Key.{name as #entries·fill}
+use Rattle.plate_entries.proofs.fill.Key.{name as #plate-entries·fill}
 use Rattle.plate_entries.proofs.fill as filling
 use Rattle.plate_entries.proofs.fill.Statement as stated
 use Rattle.plate_entries.proofs.fill.Code as code
@@ -145,7 +145,7 @@ module _ {M : Type 1} (𝓤 : URA M) (H : Heap 𝓤) (A : Atoms 𝓤) (W : Given
     said : (i : ℕ) (r : Node) → ent 𝓤 (ensured 𝓤 H A made.ended (made.clauses 𝓤 H A mem run) (κ′, tt) (work, (n, (i, tt))) tt r) (fact 𝓤 (r ≡ standing n ws i))
     said i r = exE 𝓤 _ (λ zs. snd∗ 𝓤 (sem 𝓤 H A (lasts made.ended (κ′, tt) (work, (n, (i, tt))) zs)) (fact 𝓤 (r ≡ standing n ws i)))
 
-    module _ (𝓣 : Tables 𝓤 H) (known : Triple 𝓤 (𝓣 .C #entries·standing) (Made 𝓤 H A mem run)) (l₀ l₁ l₂ l₃ l₄ l₅ l₆ l₇ l₈ l₉ : ℕ) where
+    module _ (𝓣 : Tables 𝓤 H) (known : Triple 𝓤 (𝓣 .C #plate-entries·standing) (Made 𝓤 H A mem run)) (l₀ l₁ l₂ l₃ l₄ l₅ l₆ l₇ l₈ l₉ : ℕ) where
       abbrev En : Env 𝓤 H
       En = (tyUnit, l₀) ∷ (nodes, l₁) ∷ (numbers, l₂) ∷ (word, l₃) ∷ (word, l₄) ∷ (word, l₅) ∷ (tyBool, l₆) ∷ (T′.mir, l₇) ∷ (word, l₈) ∷ (tyPtr, l₉) ∷ []
 
@@ -234,7 +234,7 @@ module _ {M : Type 1} (𝓤 : URA M) (H : Heap 𝓤) (A : Atoms 𝓤) (W : Given
           (qed W (At (count - count)) ∵ fltI ! count (count + 1) (omega arith) $ by ! (loop-rule 𝓤 H (W .laws) 𝓣 _<_ (Nat·lt-wfRel .wf) En parts.turn-1 Left (λ (t : ℕ). ⋆ 𝓤 H A (Inv t)) turns count))
 
     -- the MIR, up to the loop
-    walk : (𝓣 : Tables 𝓤 H) → Triple 𝓤 (𝓣 .C #entries·standing) (Made 𝓤 H A mem run)
+    walk : (𝓣 : Tables 𝓤 H) → Triple 𝓤 (𝓣 .C #plate-entries·standing) (Made 𝓤 H A mem run)
         → ent 𝓤 (onEntry 𝓤 H A filling.signature (κ, (κ′, tt)) (q, (q′, tt)) a vals) (WpFn 𝓤 H (𝓣 .C) (𝓣 .Λ) code.function (s ∷ s′ ∷ vint w64 n ∷ vint w64 count ∷ []) Post)
     walk 𝓣 known =
         qed W ((‵ (flft κ q) ⊛ (‵ (flft κ′ q′) ⊛ ‵ ftrue)) ∷ ‵ (owns (MutSlice (named 0) κ T.the-row ∷ ShrSlice (named 1) κ′ u32 ∷ usize ∷ usize ∷ []) a vals) ∷ []) ∵
@@ -251,7 +251,7 @@ module _ {M : Type 1} (𝓤 : URA M) (H : Heap 𝓤) (A : Atoms 𝓤) (W : Given
         rewrite ! 2 (λ (l : List Node). ‵ (row T.the-row fullShare l b o)) (sym (filled-none (standing n ws) ys)) refl $
         keep ! (2 ∷ 17 ∷ 15 ∷ 13 ∷ 11 ∷ 9 ∷ 25 ∷ 23 ∷ 21 ∷ 19 ∷ 27 ∷ 3 ∷ 4 ∷ 5 ∷ 6 ∷ 1 ∷ 0 ∷ 28 ∷ 26 ∷ 24 ∷ 22 ∷ 20 ∷ 18 ∷ 16 ∷ 14 ∷ 12 ∷ 10 ∷ []) $ by ! (repeats 𝓣 known l₀ l₁ l₂ l₃ l₄ l₅ l₆ l₇ l₈ l₉)))))))))))
 
-module _ {M : Type 1} (𝓤 : URA M) (H : Heap 𝓤) (A : Atoms 𝓤) (W : Given 𝓤 H A) (mem : Memory → SProp 𝓤) (run : Routine → Fun 𝓤) (𝓣 : Tables 𝓤 H) (known : Triple 𝓤 (𝓣 .C #entries·standing) (Made 𝓤 H A mem run)) where
+module _ {M : Type 1} (𝓤 : URA M) (H : Heap 𝓤) (A : Atoms 𝓤) (W : Given 𝓤 H A) (mem : Memory → SProp 𝓤) (run : Routine → Fun 𝓤) (𝓣 : Tables 𝓤 H) (known : Triple 𝓤 (𝓣 .C #plate-entries·standing) (Made 𝓤 H A mem run)) where
   fill-walks : Walks 𝓤 H A filling.ended stayed (WpFn 𝓤 H (𝓣 .C) (𝓣 .Λ) code.function) (filling.clauses 𝓤 H A mem run)
   fill-walks = walked 𝓤 H A filling.ended stayed (filling.clauses 𝓤 H A mem run) (WpFn 𝓤 H (𝓣 .C) (𝓣 .Λ) code.function)
       (λ κs. (slice-vals, (slice-vals, (uint-vals w64, (uint-vals w64, tt)))))
@@ -270,6 +270,6 @@ pub fill-spec : {M : Type 1} → stated.statement M
 unfolding code.routine tablesOf
 fill-spec 𝓤 H 𝓜 𝓖 𝓡 =
     entered 𝓤 H (tripleOf 𝓤 H (𝓖 .A) filling.signature (filling.spec 𝓤 H (𝓖 .A) (𝓜 .mem) (𝓡 .run)))
-    (tables 𝓤 H 𝓜 𝓡 code.env .C) (tables 𝓤 H 𝓜 𝓡 code.env .Λ) #entries·fill code.function (code.unfolded 𝓤 H 𝓜 𝓡)
+    (tables 𝓤 H 𝓜 𝓡 code.env .C) (tables 𝓤 H 𝓜 𝓡 code.env .Λ) #plate-entries·fill code.function (code.unfolded 𝓤 H 𝓜 𝓡)
     (fill-meets 𝓤 H (𝓖 .A) (givenOf 𝓤 H 𝓜 𝓖) (𝓜 .mem) (𝓡 .run) (tablesOf 𝓤 H 𝓜 (tables 𝓤 H 𝓜 𝓡 code.env))
-    (cited 𝓤 H (Made 𝓤 H (𝓖 .A) (𝓜 .mem) (𝓡 .run)) 𝓜 𝓡 code.env #entries·standing made-def.routine code.calls-entries·standing (made-thm.met 𝓤 H 𝓜 𝓖 𝓡)))
+    (cited 𝓤 H (Made 𝓤 H (𝓖 .A) (𝓜 .mem) (𝓡 .run)) 𝓜 𝓡 code.env #plate-entries·standing made-def.routine code.calls-plate-entries·standing (made-thm.met 𝓤 H 𝓜 𝓖 𝓡)))

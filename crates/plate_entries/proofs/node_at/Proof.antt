@@ -43,7 +43,7 @@ use Rattle.plate_entries.specs.declared.Node.{Node}
 use Rattle.plate_entries.specs.Entries.{none}
 use Rattle.plate_entries.proofs.Node as T
 use Rattle.plate_entries.proofs.Node.Laws as T′
-use Rattle.plate_entries.proofs.node_at.Key.{name as #entries·node-at}
+use Rattle.plate_entries.proofs.node_at.Key.{name as #plate-entries·node-at}
 use Rattle.plate_entries.proofs.node_at as node-at
 use Rattle.plate_entries.proofs.node_at.Statement as stated
 use Rattle.plate_entries.proofs.node_at.Code as code
@@ -149,5 +149,5 @@ pub node-at-spec : {M : Type 1} → stated.statement M
 unfolding code.routine tablesOf
 node-at-spec 𝓤 H 𝓜 𝓖 𝓡 =
     entered 𝓤 H (tripleOf 𝓤 H (𝓖 .A) node-at.signature (node-at.spec 𝓤 H (𝓖 .A) (𝓜 .mem) (𝓡 .run)))
-    (tables 𝓤 H 𝓜 𝓡 code.env .C) (tables 𝓤 H 𝓜 𝓡 code.env .Λ) #entries·node-at code.function (code.unfolded 𝓤 H 𝓜 𝓡)
+    (tables 𝓤 H 𝓜 𝓡 code.env .C) (tables 𝓤 H 𝓜 𝓡 code.env .Λ) #plate-entries·node-at code.function (code.unfolded 𝓤 H 𝓜 𝓡)
     (node-at-meets 𝓤 H (𝓖 .A) (givenOf 𝓤 H 𝓜 𝓖) (𝓜 .mem) (𝓡 .run) (tablesOf 𝓤 H 𝓜 (tables 𝓤 H 𝓜 𝓡 code.env)))

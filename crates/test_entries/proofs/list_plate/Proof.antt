@@ -55,22 +55,22 @@ use Rattle.plate_entries.proofs.Node as T
 use Rattle.plate_entries.proofs.Node.Laws as T′
 use Rattle.plate_entries.proofs.node_entries as listing
 use Rattle.plate_entries.proofs.node_entries.Symbol as listing-def
-use Rattle.plate_entries.proofs.node_entries.Symbol.{name as #entries·node-entries}
+use Rattle.plate_entries.proofs.node_entries.Symbol.{name as #plate-entries·node-entries}
 use Rattle.plate_entries.proofs.node_entries.Met as listing-thm
 use Rattle.plate_entries.proofs.node_at as reading
 use Rattle.plate_entries.proofs.node_at.Symbol as reading-def
-use Rattle.plate_entries.proofs.node_at.Symbol.{name as #entries·node-at}
+use Rattle.plate_entries.proofs.node_at.Symbol.{name as #plate-entries·node-at}
 use Rattle.plate_entries.proofs.node_at.Met as reading-thm
 use Rattle.test_entries.proofs.Local.{local-in, local-out}
 use Rattle.test_entries.proofs.unwritten as making
 use Rattle.test_entries.proofs.unwritten.Symbol as making-def
-use Rattle.test_entries.proofs.unwritten.Symbol.{name as #entries-cases·unwritten}
+use Rattle.test_entries.proofs.unwritten.Symbol.{name as #test-entries·unwritten}
 use Rattle.test_entries.proofs.unwritten.Met as making-thm
 use Rattle.test_entries.proofs.show as showing
 use Rattle.test_entries.proofs.show.Symbol as showing-def
-use Rattle.test_entries.proofs.show.Symbol.{name as #entries-cases·show}
+use Rattle.test_entries.proofs.show.Symbol.{name as #test-entries·show}
 use Rattle.test_entries.proofs.show.Met as showing-thm
-use Rattle.test_entries.proofs.list_plate.Key.{name as #entries-cases·list-plate}
+use Rattle.test_entries.proofs.list_plate.Key.{name as #test-entries·list-plate}
 use Rattle.test_entries.proofs.list_plate as plating
 use Rattle.test_entries.proofs.list_plate.Statement as stated
 use Rattle.test_entries.proofs.list_plate.Code as code
@@ -203,8 +203,8 @@ module _ {M : Type 1} (𝓤 : URA M) (H : Heap 𝓤) (A : Atoms 𝓤) (W : Given
         rewrite ! 0 (λ (m : ℕ). ‵ (ShrSlice (named 0) (ν ∷ []) T.the-row .own (y l δ xs) (sliceVal (l, 0) m ∷ []))) len refl $
         at-once ! $ exhibit ! (λ (δ′ : GName). sep 𝓤 (sem 𝓤 H A (ShrSlice (named 0) (ν ∷ []) T.the-row .own (y l δ′ xs) (s₆ l ∷ []))) (A .lent (ν ∷ []) (arr-parts (shares T.the-row) (length xs) .part fullShare xs l 0))) δ $ done !)
 
-    module _ (C : Calls 𝓤 H) (Λ : Loops 𝓤 H) (fm : FmC 𝓤 H (W .laws) C) (known-make : Triple 𝓤 (C #entries-cases·unwritten) (Make 𝓤 H A mem run)) (known-list : Triple 𝓤 (C #entries·node-entries) (List′ 𝓤 H A mem run))
-        (known-read : Triple 𝓤 (C #entries·node-at) (Read 𝓤 H A mem run)) (known-show : Triple 𝓤 (C #entries-cases·show) (Show 𝓤 H A mem run)) where
+    module _ (C : Calls 𝓤 H) (Λ : Loops 𝓤 H) (fm : FmC 𝓤 H (W .laws) C) (known-make : Triple 𝓤 (C #test-entries·unwritten) (Make 𝓤 H A mem run)) (known-list : Triple 𝓤 (C #plate-entries·node-entries) (List′ 𝓤 H A mem run))
+        (known-read : Triple 𝓤 (C #plate-entries·node-at) (Read 𝓤 H A mem run)) (known-show : Triple 𝓤 (C #test-entries·show) (Show 𝓤 H A mem run)) where
       walk : ent 𝓤 (onEntry 𝓤 H A plating.signature (κ₀, (κ₁, tt)) (q₀, (q₁, tt)) a vals) (WpFn 𝓤 H C Λ code.function (s₀ ∷ vint w32 w ∷ vint w32 h ∷ vint w32 k ∷ s₁ ∷ vint w64 at ∷ []) Post)
       walk =
           qed W ((‵ (flft κ₀ q₀) ⊛ (‵ (flft κ₁ q₁) ⊛ ‵ ftrue)) ∷ ‵ (owns (ShrSlice (named 0) κ₀ u8 ∷ u32 ∷ u32 ∷ u32 ∷ MutSlice (named 1) κ₁ u32 ∷ usize ∷ []) a vals) ∷ []) ∵
@@ -282,8 +282,8 @@ module _ {M : Type 1} (𝓤 : URA M) (H : Heap 𝓤) (A : Atoms 𝓤) (W : Given
           move ! (10 ∷ 11 ∷ []) $ free1 ! $ move ! (8 ∷ 9 ∷ []) $ free1 ! $ move ! (6 ∷ 7 ∷ []) $ free1 ! $
           free0 ! $ keep ! (3 ∷ 2 ∷ 5 ∷ 4 ∷ []) $ by ! (exits (zs .1 .1 .1 .1 .1 .0) len₂))))))))))))))))))))))))))))))))))))))))
 
-module _ {M : Type 1} (𝓤 : URA M) (H : Heap 𝓤) (A : Atoms 𝓤) (W : Given 𝓤 H A) (mem : Memory → SProp 𝓤) (run : Routine → Fun 𝓤) (𝓣 : Tables 𝓤 H) (known-make : Triple 𝓤 (𝓣 .C #entries-cases·unwritten) (Make 𝓤 H A mem run))
-    (known-list : Triple 𝓤 (𝓣 .C #entries·node-entries) (List′ 𝓤 H A mem run)) (known-read : Triple 𝓤 (𝓣 .C #entries·node-at) (Read 𝓤 H A mem run)) (known-show : Triple 𝓤 (𝓣 .C #entries-cases·show) (Show 𝓤 H A mem run)) where
+module _ {M : Type 1} (𝓤 : URA M) (H : Heap 𝓤) (A : Atoms 𝓤) (W : Given 𝓤 H A) (mem : Memory → SProp 𝓤) (run : Routine → Fun 𝓤) (𝓣 : Tables 𝓤 H) (known-make : Triple 𝓤 (𝓣 .C #test-entries·unwritten) (Make 𝓤 H A mem run))
+    (known-list : Triple 𝓤 (𝓣 .C #plate-entries·node-entries) (List′ 𝓤 H A mem run)) (known-read : Triple 𝓤 (𝓣 .C #plate-entries·node-at) (Read 𝓤 H A mem run)) (known-show : Triple 𝓤 (𝓣 .C #test-entries·show) (Show 𝓤 H A mem run)) where
   list-plate-walks : Walks 𝓤 H A plating.ended stayed (WpFn 𝓤 H (𝓣 .C) (𝓣 .Λ) code.function) (plating.clauses 𝓤 H A mem run)
   list-plate-walks = walked 𝓤 H A plating.ended stayed (plating.clauses 𝓤 H A mem run) (WpFn 𝓤 H (𝓣 .C) (𝓣 .Λ) code.function)
       (λ κs. (slice-vals, (uint-vals w32, (uint-vals w32, (uint-vals w32, (slice-vals, (uint-vals w64, tt)))))))
@@ -314,9 +314,9 @@ pub list-plate-spec : {M : Type 1} → stated.statement M
 unfolding code.routine tablesOf
 list-plate-spec 𝓤 H 𝓜 𝓖 𝓡 =
     entered 𝓤 H (tripleOf 𝓤 H (𝓖 .A) plating.signature (plating.spec 𝓤 H (𝓖 .A) (𝓜 .mem) (𝓡 .run)))
-    (tables 𝓤 H 𝓜 𝓡 code.env .C) (tables 𝓤 H 𝓜 𝓡 code.env .Λ) #entries-cases·list-plate code.function (code.unfolded 𝓤 H 𝓜 𝓡)
+    (tables 𝓤 H 𝓜 𝓡 code.env .C) (tables 𝓤 H 𝓜 𝓡 code.env .Λ) #test-entries·list-plate code.function (code.unfolded 𝓤 H 𝓜 𝓡)
     (list-plate-meets 𝓤 H (𝓖 .A) (givenOf 𝓤 H 𝓜 𝓖) (𝓜 .mem) (𝓡 .run) (tablesOf 𝓤 H 𝓜 (tables 𝓤 H 𝓜 𝓡 code.env))
-    (cited 𝓤 H (Make 𝓤 H (𝓖 .A) (𝓜 .mem) (𝓡 .run)) 𝓜 𝓡 code.env #entries-cases·unwritten making-def.routine code.calls-entries-cases·unwritten (making-thm.met 𝓤 H 𝓜 𝓖 𝓡))
-    (cited 𝓤 H (List′ 𝓤 H (𝓖 .A) (𝓜 .mem) (𝓡 .run)) 𝓜 𝓡 code.env #entries·node-entries listing-def.routine code.calls-entries·node-entries (listing-thm.met 𝓤 H 𝓜 𝓖 𝓡))
-    (cited 𝓤 H (Read 𝓤 H (𝓖 .A) (𝓜 .mem) (𝓡 .run)) 𝓜 𝓡 code.env #entries·node-at reading-def.routine code.calls-entries·node-at (reading-thm.met 𝓤 H 𝓜 𝓖 𝓡))
-    (cited 𝓤 H (Show 𝓤 H (𝓖 .A) (𝓜 .mem) (𝓡 .run)) 𝓜 𝓡 code.env #entries-cases·show showing-def.routine code.calls-entries-cases·show (showing-thm.met 𝓤 H 𝓜 𝓖 𝓡)))
+    (cited 𝓤 H (Make 𝓤 H (𝓖 .A) (𝓜 .mem) (𝓡 .run)) 𝓜 𝓡 code.env #test-entries·unwritten making-def.routine code.calls-test-entries·unwritten (making-thm.met 𝓤 H 𝓜 𝓖 𝓡))
+    (cited 𝓤 H (List′ 𝓤 H (𝓖 .A) (𝓜 .mem) (𝓡 .run)) 𝓜 𝓡 code.env #plate-entries·node-entries listing-def.routine code.calls-plate-entries·node-entries (listing-thm.met 𝓤 H 𝓜 𝓖 𝓡))
+    (cited 𝓤 H (Read 𝓤 H (𝓖 .A) (𝓜 .mem) (𝓡 .run)) 𝓜 𝓡 code.env #plate-entries·node-at reading-def.routine code.calls-plate-entries·node-at (reading-thm.met 𝓤 H 𝓜 𝓖 𝓡))
+    (cited 𝓤 H (Show 𝓤 H (𝓖 .A) (𝓜 .mem) (𝓡 .run)) 𝓜 𝓡 code.env #test-entries·show showing-def.routine code.calls-test-entries·show (showing-thm.met 𝓤 H 𝓜 𝓖 𝓡)))
