@@ -69,14 +69,14 @@ struct Fields<'a> {
 
 impl Fields<'_> {
     fn head(&mut self) -> Result<Head, Fault> {
-        let width = self.from_to(1, MAX_SIDE, || "width".into())?;
+        let width = self.within(1, MAX_SIDE, || "width".into())?;
         let tallest = MAX_SIDE.min(MAX_PIXELS as u32 / width);
-        let height = self.from_to(1, tallest, || "height".into())?;
+        let height = self.within(1, tallest, || "height".into())?;
         let number = self.next(
             |number| Connectivity::from_number(number).is_some(),
             || ("connectivity".into(), "4 or 8".into()),
         )?;
-        let nodes = self.from_to(1, width * height, || "node count".into())?;
+        let nodes = self.within(1, width * height, || "node count".into())?;
         Ok(Head {
             width,
             height,
@@ -88,24 +88,24 @@ impl Fields<'_> {
     /// The nodes: the root, then each with its parent's level below it.
     fn nodes(&mut self, head: Head) -> Result<(), Fault> {
         let pixels = head.pixels() as u32;
-        let mut levels = vec![self.from_to(0, 255, || "root's level".into())?];
-        self.from_to(1, pixels, || "root's area".into())?;
+        let mut levels = vec![self.within(0, 255, || "root's level".into())?];
+        self.within(1, pixels, || "root's area".into())?;
         for node in 1..head.nodes {
-            let step = self.from_to(1, node, || format!("step of node {node}"))?;
+            let step = self.within(1, node, || format!("step of node {node}"))?;
             let parent = levels[(node - step) as usize];
-            let rise = self.from_to(1, 255 - parent, || format!("rise of node {node}"))?;
-            self.from_to(1, pixels, || format!("area of node {node}"))?;
+            let rise = self.within(1, 255 - parent, || format!("rise of node {node}"))?;
+            self.within(1, pixels, || format!("area of node {node}"))?;
             levels.push(parent + rise);
         }
         Ok(())
     }
 
     fn own_node(&mut self, pixel: usize, head: Head) -> Result<u32, Fault> {
-        self.from_to(0, head.nodes - 1, || format!("own node of pixel {pixel}"))
+        self.within(0, head.nodes - 1, || format!("own node of pixel {pixel}"))
     }
 
     /// The next field, which is allowed from one number to another.
-    fn from_to(
+    fn within(
         &mut self,
         least: u32,
         most: u32,
@@ -131,7 +131,10 @@ impl Fields<'_> {
         }
         let (field, range) = words();
         let (refusal, found) = match (groups, number) {
-            (None, _) => (Refusal::FieldUnended, String::from("is not ended")),
+            (None, _) => (
+                Refusal::FieldUnended,
+                format!("is not ended; the record has {} bytes", self.bytes.len()),
+            ),
             (_, None) => (
                 Refusal::FieldForm,
                 String::from("is not in its shortest form, or is above 4294967295"),

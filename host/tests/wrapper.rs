@@ -114,10 +114,12 @@ fn the_text_of_sizelist() {
 fn greys_and_bytes_without_a_copy() {
     let plate = small();
     let start = plate.greys().as_ptr();
-    assert_eq!(plate.into_greys().as_ptr(), start);
+    let greys = plate.into_greys();
+    assert_eq!(greys.as_ptr(), start);
     let record = small().record(Connectivity::Four).expect("a record");
     let start = record.bytes().as_ptr();
-    assert_eq!(record.into_bytes().as_ptr(), start);
+    let bytes = record.into_bytes();
+    assert_eq!(bytes.as_ptr(), start);
 }
 
 #[test]
@@ -218,7 +220,10 @@ fn heads_of_records() {
 #[test]
 fn faults_of_records() {
     for (bytes, words) in [
-        (&[][..], "byte 0: the width is not ended"),
+        (
+            &[][..],
+            "byte 0: the width is not ended; the record has 0 bytes",
+        ),
         (&[4, 0], "byte 1: the height is 0; 1 to 32768"),
         (
             &[4, 132, 0],
