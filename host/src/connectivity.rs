@@ -15,6 +15,7 @@ use crate::refusal::Refusal;
 /// assert_eq!(Connectivity::try_from(5), Err(Refusal::Connectivity));
 /// ```
 #[derive(Clone, Copy, Debug, Default, PartialEq, Eq, Hash)]
+#[non_exhaustive]
 pub enum Connectivity {
     /// Pixels that share a side.
     #[default]

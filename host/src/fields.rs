@@ -11,6 +11,7 @@ use crate::{MAX_PIXELS, MAX_SIDE};
 
 /// What a record's first four fields say.
 #[derive(Clone, Copy, Debug, PartialEq, Eq)]
+#[non_exhaustive]
 pub struct Head {
     pub width: u32,
     pub height: u32,
@@ -28,6 +29,7 @@ impl Head {
 
 /// A field of a record that is unended, malformed or outside its range.
 #[derive(Clone, Debug, PartialEq, Eq)]
+#[non_exhaustive]
 pub struct Fault {
     /// 20, 21 or 22.
     pub refusal: Refusal,

@@ -89,39 +89,9 @@ fn refusals() {
 fn an_endless_input_is_refused() {
     let input = Path::new("/dev/zero");
     if input.exists() {
-        assert_refused(
-            &run(&["open", "--limit", "1"], &[input, Path::new("-")]),
-            10,
-        );
-    }
-}
-
-/// Figures of the case, and the name of the input.
-#[test]
-fn refusals_with_figures() {
-    let flat = |header: &str, pixels: usize| [header.as_bytes(), &vec![7; pixels]].concat();
-    for (words, input, wanted) in [
-        (&["open", "--limit", "500"][..], flat("P5 20 20 255\n", 400), "4: the limit 500 is above the 400 pixels (20 x 20)"),
-        (&["close", "--limit", "00"], flat("P5 2 1 255\n", 2), "4: the limit is 0; the least is 1"),
-        (&["open", "--limit", "099999999999999999999"], flat("P5 2 1 255\n", 2), "4: the limit 99999999999999999999 is above the 2 pixels (2 x 1)"),
-        (&["cut", "--limit", "13"], SMALL_RECORD.to_vec(), "4: the limit 13 is above the 12 pixels (4 x 3)"),
-        (&["maxima"], flat("P5 1 1 65535\n", 2), "12: the greatest grey is 65535; 255 is read"),
-        (&["maxima"], flat("P5 5000 4000 255\n", 0), "2: 5000 x 4000 = 20000000 pixels; at most 16777216"),
-        (&["maxima"], flat("P5 0 40000 255\n", 0), "2: 0 x 40000 pixels; each side is 1 to 32768"),
-        (&["maxima"], flat("P5 1 x 255\n", 1), "11: byte 5 of the header is 'x'; a digit of the height should be there"),
-        (&["maxima"], flat("P5 1 #", 0), "11: the file ends at byte 6; the end of a comment should be there"),
-        (&["maxima"], flat("P5 2 3 255\n", 1), "14: 1 byte for 6 pixels (2 x 3)"),
-        (&["maxima"], flat("P5 2 3 255\n", 8), "15: 2 bytes left over after the 6 pixels (2 x 3)"),
-        (&["maxima"], [SMALL, SMALL].concat(), "15: a roll of several plates: 23 bytes after the first (4 x 3) begin with P5; pamsplit parts them"),
-        (&["plate"], SMALL_RECORD[..26].to_vec(), "20: byte 26: the own node of pixel 11 is not ended; the record has 26 bytes"),
-        (&["plate"], vec![132, 0], "21: byte 0: the width is not in its shortest form, or is above 4294967295"),
-        (&["plate"], vec![4, 3, 6], "22: byte 2: the connectivity is 6; 4 or 8"),
-        (&["plate"], SMALL.to_vec(), "22: byte 2: the connectivity is 10; 4 or 8 (the input is a raw PGM (P5), not a record)"),
-        (&["plate"], [&SMALL_RECORD[..], &[0]].concat(), "23: 1 byte left over after the last field"),
-        (&["plate"], vec![2, 1, 4, 1, 7, 1, 0, 0], "24: the record is not the one that its plate has"),
-    ] {
-        let output = run_on(&[words, &["-", "-"]].concat(), &input);
-        assert_says(&output, 1, &format!("standard input: refused {wanted}"));
+        for (command, number) in [("maxima", 10), ("plate", 22)] {
+            assert_refused(&run(&[command], &[input, Path::new("-")]), number);
+        }
     }
 }
 
@@ -163,89 +133,6 @@ fn other_formats() {
     ] {
         let line = format!("standard input: refused 10: the input {what}");
         assert_says(&run_on(&["sizelist", "-"], input), 1, &line);
-    }
-}
-
-/// A slip is told in one line, which says where there is more.
-#[test]
-fn bad_usage() {
-    for (words, wanted) in [
-        (&[][..], "no command is given"),
-        (&["clean"], "there is no command clean"),
-        (&["open", "a", "b"], "open lacks --limit"),
-        (
-            &["open", "--limit", "a", "b"],
-            "the limit a is not a whole number",
-        ),
-        (
-            &["open", "--limit", "2", "a"],
-            "open takes IN and OUT, and 1 file is given",
-        ),
-        (
-            &["open", "--limit=2x", "a", "b"],
-            "the limit 2x is not a whole number",
-        ),
-        (
-            &["open", "--limit=", "a", "b"],
-            "the limit  is not a whole number",
-        ),
-        (
-            &["open", "--limit", "2", "--connectivity", "6", "a", "b"],
-            "the connectivity 6 is neither 4 nor 8",
-        ),
-        (
-            &["open", "--limit", "2", "--colour", "a", "b"],
-            "there is no option --colour",
-        ),
-        (
-            &["open", "--limit", "2", "a", "b", "c"],
-            "open takes IN and OUT, and 3 files are given",
-        ),
-        (
-            &["open", "--limit", "2", "--limit=2", "a", "b"],
-            "--limit is given twice",
-        ),
-        (
-            &[
-                "maxima",
-                "--connectivity=4",
-                "--connectivity",
-                "8",
-                "a",
-                "b",
-            ],
-            "--connectivity is given twice",
-        ),
-        (
-            &["maxima", "--force", "--force", "a", "b"],
-            "--force is given twice",
-        ),
-        (
-            &["maxima", "--force=yes", "a", "b"],
-            "--force takes no value",
-        ),
-        (
-            &["maxima", "--limit", "2", "a", "b"],
-            "maxima takes no --limit",
-        ),
-        (
-            &["plate", "--connectivity", "4", "a", "b"],
-            "plate takes no --connectivity",
-        ),
-        (&["nodes", "--force", "a"], "nodes takes no --force"),
-        (
-            &["nodes", "a", "b"],
-            "nodes takes IN, and 2 files are given",
-        ),
-        (
-            &["nodes", "a", "--connectivity"],
-            "--connectivity lacks its value",
-        ),
-        (&["\x1b[2J"], "there is no command \\u{1b}[2J"),
-        (&["nodes", "--\n"], "there is no option --\\n"),
-    ] {
-        let line = format!("{wanted}; see livukoe --help");
-        assert_says(&run(words, &[]), 2, &line);
     }
 }
 
@@ -320,7 +207,7 @@ fn standard_streams() {
 #[test]
 fn a_broken_pipe() {
     let folder = Folder::new("pipe");
-    let noise: Vec<u8> = (0..1 << 16).map(|at: u32| (at * at >> 7) as u8).collect();
+    let noise: Vec<u8> = (0..1 << 16).map(|at: u32| ((at * at) >> 7) as u8).collect();
     let input = folder.file("in.pgm", &[b"P5 256 256 255\n", &noise[..]].concat());
     let mut child = tool()
         .args([Path::new("nodes"), &input])
@@ -373,4 +260,166 @@ fn long_inputs() {
     let left = maxima(&long("left.pgm", b"P5 1 1 255\n\x07", most, b""));
     assert_says_of(&left, 1, "refused 15: at least 268435445 bytes left over");
     fs::remove_file(folder.path("left.pgm")).expect("removed");
+}
+
+/// A command, the header of a plate file, how many bytes follow it, and the refusal with the figures of the case.
+const PLATE_FIGURES: [(&str, &str, usize, &str); 10] = [
+    (
+        "open --limit 500",
+        "P5 20 20 255\n",
+        400,
+        "4: the limit 500 is above the 400 pixels (20 x 20)",
+    ),
+    (
+        "close --limit 00",
+        "P5 2 1 255\n",
+        2,
+        "4: the limit is 0; the least is 1",
+    ),
+    (
+        "open --limit 099999999999999999999",
+        "P5 2 1 255\n",
+        2,
+        "4: the limit 99999999999999999999 is above the 2 pixels (2 x 1)",
+    ),
+    (
+        "maxima",
+        "P5 1 1 65535\n",
+        2,
+        "12: the greatest grey is 65535; 255 is read",
+    ),
+    (
+        "maxima",
+        "P5 5000 4000 255\n",
+        0,
+        "2: 5000 x 4000 = 20000000 pixels; at most 16777216",
+    ),
+    (
+        "maxima",
+        "P5 0 40000 255\n",
+        0,
+        "2: 0 x 40000 pixels; each side is 1 to 32768",
+    ),
+    (
+        "maxima",
+        "P5 1 x 255\n",
+        1,
+        "11: byte 5 of the header is 'x'; a digit of the height should be there",
+    ),
+    (
+        "maxima",
+        "P5 1 #",
+        0,
+        "11: the file ends at byte 6; the end of a comment should be there",
+    ),
+    (
+        "maxima",
+        "P5 2 3 255\n",
+        1,
+        "14: 1 byte for 6 pixels (2 x 3)",
+    ),
+    (
+        "maxima",
+        "P5 2 3 255\n",
+        8,
+        "15: 2 bytes left over after the 6 pixels (2 x 3)",
+    ),
+];
+
+#[test]
+fn refusals_of_plate_files_with_figures() {
+    for (command, header, bytes, wanted) in PLATE_FIGURES {
+        let file = [header.as_bytes(), &vec![7; bytes]].concat();
+        assert_tells(command, &file, wanted);
+    }
+    let roll = "15: a roll of several plates: 23 bytes after the first (4 x 3) begin with P5; \
+                pamsplit parts them";
+    assert_tells("maxima", &[SMALL, SMALL].concat(), roll);
+}
+
+/// A command on standard input is refused in these words.
+fn assert_tells(command: &str, input: &[u8], wanted: &str) {
+    let words: Vec<&str> = command.split(' ').chain(["-", "-"]).collect();
+    let line = format!("standard input: refused {wanted}");
+    assert_says(&run_on(&words, input), 1, &line);
+}
+
+#[test]
+fn refusals_of_records_with_figures() {
+    let limit = "4: the limit 13 is above the 12 pixels (4 x 3)";
+    assert_tells("cut --limit 13", &SMALL_RECORD, limit);
+    let longer = [&SMALL_RECORD[..], &[0]].concat();
+    for (record, wanted) in [
+        (
+            &SMALL_RECORD[..26],
+            "20: byte 26: the own node of pixel 11 is not ended; the record has 26 bytes",
+        ),
+        (
+            &[132, 0],
+            "21: byte 0: the width is not in its shortest form, or is above 4294967295",
+        ),
+        (&[4, 3, 6], "22: byte 2: the connectivity is 6; 4 or 8"),
+        (
+            SMALL,
+            "22: byte 2: the connectivity is 10; 4 or 8 (the input is a raw PGM (P5), not a record)",
+        ),
+        (&longer, "23: 1 byte left over after the last field"),
+        (
+            &[2, 1, 4, 1, 7, 1, 0, 0],
+            "24: the record is not the one that its plate has",
+        ),
+    ] {
+        assert_tells("plate", record, wanted);
+    }
+}
+
+/// Command lines, and what is wrong with them.
+const SLIPS: [(&str, &str); 20] = [
+    ("clean", "there is no command clean"),
+    ("open a b", "open lacks --limit"),
+    ("open --limit a b", "the limit a is not a whole number"),
+    (
+        "open --limit 2 a",
+        "open takes IN and OUT, and 1 file is given",
+    ),
+    ("open --limit=2x a b", "the limit 2x is not a whole number"),
+    ("open --limit= a b", "the limit  is not a whole number"),
+    (
+        "open --limit 2 --connectivity 6 a b",
+        "the connectivity 6 is neither 4 nor 8",
+    ),
+    ("open --limit 2 --colour a b", "there is no option --colour"),
+    (
+        "open --limit 2 a b c",
+        "open takes IN and OUT, and 3 files are given",
+    ),
+    ("open --limit 2 --limit=2 a b", "--limit is given twice"),
+    (
+        "maxima --connectivity=4 --connectivity 8 a b",
+        "--connectivity is given twice",
+    ),
+    ("maxima --force --force a b", "--force is given twice"),
+    ("maxima --force=yes a b", "--force takes no value"),
+    ("maxima --limit 2 a b", "maxima takes no --limit"),
+    (
+        "plate --connectivity 4 a b",
+        "plate takes no --connectivity",
+    ),
+    ("nodes --force a", "nodes takes no --force"),
+    ("nodes a b", "nodes takes IN, and 2 files are given"),
+    ("nodes a --connectivity", "--connectivity lacks its value"),
+    ("\x1b[2J", "there is no command \\u{1b}[2J"),
+    ("nodes --\n", "there is no option --\\n"),
+];
+
+/// A slip is told in one line, which says where there is more.
+#[test]
+fn bad_usage() {
+    let none = "no command is given; see livukoe --help";
+    assert_says(&run(&[], &[]), 2, none);
+    for (line, wanted) in SLIPS {
+        let words: Vec<&str> = line.split(' ').collect();
+        let wanted = format!("{wanted}; see livukoe --help");
+        assert_says(&run(&words, &[]), 2, &wanted);
+    }
 }

@@ -20,16 +20,16 @@ const OPEN: [&str; 3] = ["open", "--limit", "2"];
 const NOBODY: u32 = 65_534;
 
 /// A directory with the small plate in it, and what may be said of an output there.
-struct Bench {
+struct Case {
     folder: Folder,
     input: PathBuf,
 }
 
-impl Bench {
-    fn new(test: &str) -> Bench {
+impl Case {
+    fn new(test: &str) -> Case {
         let folder = Folder::new(test);
         let input = folder.file("in.pgm", SMALL);
-        Bench { folder, input }
+        Case { folder, input }
     }
 
     /// A file that is there already, with these permissions.
@@ -44,6 +44,12 @@ impl Bench {
         let mut tool = tool();
         tool.args(OPEN).arg(&self.input).arg(output);
         tool
+    }
+
+    /// The same by a line of the shell, in which `"$@"` is the tool with its words.
+    fn open_by_shell(&self, line: &str, output: &Path) -> Command {
+        let files = [&self.input, output].map(|path| path.to_str().expect("a name"));
+        by_shell(line, &[&OPEN[..], &files].concat())
     }
 
     fn assert_opened(&self, output: &Path) {
@@ -143,48 +149,48 @@ fn files_that_cannot_be_used() {
 /// A link to a file stays, and the file is replaced.
 #[test]
 fn a_link_to_a_file() {
-    let bench = Bench::new("link");
-    let file = bench.old("out.pgm", 0o640);
-    let (near, far) = (bench.folder.path("near"), bench.folder.path("far"));
+    let case = Case::new("link");
+    let file = case.old("out.pgm", 0o640);
+    let (near, far) = (case.folder.path("near"), case.folder.path("far"));
     symlink("out.pgm", &near).expect("a link");
     symlink(&near, &far).expect("a link");
-    bench.assert_opened(&far);
+    case.assert_opened(&far);
     assert!(about(&near).is_symlink() && about(&far).is_symlink());
     assert_eq!(fs::read(&file).expect("OUT"), small_file(OPENED));
-    assert_eq!(bench.folder.names(), ["far", "in.pgm", "near", "out.pgm"]);
+    assert_eq!(case.folder.names(), ["far", "in.pgm", "near", "out.pgm"]);
 }
 
 /// A link that leads nowhere is neither replaced nor followed.
 #[test]
 fn a_link_to_nothing() {
-    let bench = Bench::new("nothing");
+    let case = Case::new("nothing");
     let link = |name: &str, to: &str| {
-        symlink(to, bench.folder.path(name)).expect("a link");
-        bench.folder.path(name)
+        symlink(to, case.folder.path(name)).expect("a link");
+        case.folder.path(name)
     };
     let dangling = link("dangling", "missing.pgm");
-    bench.assert_left(&dangling, "it is a symbolic link to nothing");
+    case.assert_left(&dangling, "it is a symbolic link to nothing");
     let itself = link("loop", "loop");
-    bench.assert_left(&itself, "it is a loop of symbolic links");
+    case.assert_left(&itself, "it is a loop of symbolic links");
     let folder = link("folder", ".");
-    bench.assert_left(&folder, "Is a directory");
+    case.assert_left(&folder, "Is a directory");
 }
 
 /// A link to what standard output is: the output goes there, even where no name leads to it any more, and is put where
 /// standard output is.
 #[test]
 fn a_link_to_standard_output() {
-    let bench = Bench::new("stdout");
-    let link = bench.folder.path("link");
+    let case = Case::new("stdout");
+    let link = case.folder.path("link");
     symlink("/proc/self/fd/1", &link).expect("a link");
     for (name, remove) in [("deleted.pgm", true), ("kept.pgm", false)] {
-        let path = bench.folder.file(name, b"ahead;");
+        let path = case.folder.file(name, b"ahead;");
         let mut options = File::options();
         let mut file = options.read(true).append(true).open(&path).expect("a file");
         if remove {
             fs::remove_file(&path).expect("removed");
         }
-        let run = bench
+        let run = case
             .open(&link)
             .stdout(file.try_clone().expect("it"))
             .output();
@@ -195,8 +201,8 @@ fn a_link_to_standard_output() {
         assert_eq!(content, [b"ahead;", &small_file(OPENED)[..]].concat());
         assert!(about(&link).is_symlink());
     }
-    assert_eq!(bench.folder.names(), ["in.pgm", "kept.pgm", "link"]);
-    let output = bench.open(&link).output().expect("a run"); // a pipe
+    assert_eq!(case.folder.names(), ["in.pgm", "kept.pgm", "link"]);
+    let output = case.open(&link).output().expect("a run"); // a pipe
     assert_ok(&output);
     assert_eq!(output.stdout, small_file(OPENED));
 }
@@ -204,19 +210,19 @@ fn a_link_to_standard_output() {
 /// The same of /dev/stdout, as a user who could not replace it.
 #[test]
 fn dev_stdout() {
-    let bench = Bench::new("devstdout");
+    let case = Case::new("devstdout");
     let name = Path::new("/dev/stdout");
     if !name.exists() {
         return;
     }
-    let path = bench.folder.path("out.pgm");
+    let path = case.folder.path("out.pgm");
     let file = File::create(&path).expect("a file");
     fs::remove_file(&path).expect("removed");
-    let mut tool = bench.open(name);
-    let run = as_user(&mut tool, &bench.folder.path("")).stdout(file.try_clone().expect("it"));
+    let mut tool = case.open(name);
+    let run = as_user(&mut tool, &case.folder.path("")).stdout(file.try_clone().expect("it"));
     assert_ok(&run.output().expect("a run"));
     assert_eq!(
-        about(&bench.input).len(),
+        about(&case.input).len(),
         file.metadata().expect("its size").len()
     );
 }
@@ -224,15 +230,15 @@ fn dev_stdout() {
 /// A pipe under a name is written, and stays one.
 #[test]
 fn a_named_pipe() {
-    let bench = Bench::new("fifo");
-    let pipe = bench.folder.path("pipe");
+    let case = Case::new("fifo");
+    let pipe = case.folder.path("pipe");
     let made = Command::new("mkfifo").arg(&pipe).status().expect("mkfifo");
     assert!(made.success());
     let reader = thread::spawn({
         let pipe = pipe.clone();
         move || fs::read(pipe).expect("what was written")
     });
-    assert_ok(&bench.open(&pipe).output().expect("a run"));
+    assert_ok(&case.open(&pipe).output().expect("a run"));
     assert_eq!(reader.join().expect("a reader"), small_file(OPENED));
     assert!(!about(&pipe).is_file());
 }
@@ -240,28 +246,28 @@ fn a_named_pipe() {
 /// A name may be as long as the file system has it.
 #[test]
 fn long_names() {
-    let bench = Bench::new("longnames");
+    let case = Case::new("longnames");
     for length in [244, 245, 254, 255] {
-        let path = bench.folder.path(&"n".repeat(length));
-        bench.assert_opened(&path);
-        bench.assert_opened(&path);
+        let path = case.folder.path(&"n".repeat(length));
+        case.assert_opened(&path);
+        case.assert_opened(&path);
     }
-    let path = bench.folder.path(&"n".repeat(256));
-    bench.assert_left(&path, "File name too long");
+    let path = case.folder.path(&"n".repeat(256));
+    case.assert_left(&path, "File name too long");
 }
 
 /// Runs at one time, on one output, do not disturb each other.
 #[test]
 fn runs_at_one_time() {
-    let bench = Bench::new("together");
-    let output = bench.folder.path("out.pgm");
-    let spawn = |_| bench.open(&output).spawn().expect("a run");
+    let case = Case::new("together");
+    let output = case.folder.path("out.pgm");
+    let spawn = |_| case.open(&output).spawn().expect("a run");
     let runs: Vec<Child> = (0..16).map(spawn).collect();
     for mut run in runs {
         assert_eq!(run.wait().expect("its end").code(), Some(0));
     }
     assert_eq!(fs::read(&output).expect("OUT"), small_file(OPENED));
-    assert_eq!(bench.folder.names(), ["in.pgm", "out.pgm"]);
+    assert_eq!(case.folder.names(), ["in.pgm", "out.pgm"]);
 }
 
 extern "C" {
@@ -269,9 +275,9 @@ extern "C" {
 }
 
 /// Sends a signal to a run as soon as its temporary file is there, and gives its end.
-fn interrupt(bench: &Bench, mut run: Child, number: c_int) -> std::process::ExitStatus {
+fn interrupt(case: &Case, mut run: Child, number: c_int) -> std::process::ExitStatus {
     let begun = |names: Vec<String>| names.iter().any(|name| name.starts_with(".livukoe-"));
-    while !begun(bench.folder.names()) && run.try_wait().expect("a run").is_none() {}
+    while !begun(case.folder.names()) && run.try_wait().expect("a run").is_none() {}
     // SAFETY: no memory is passed; the process is a child that was not waited for, or is gone already
     unsafe { kill(run.id() as c_int, number) };
     run.wait().expect("its end")
@@ -280,16 +286,16 @@ fn interrupt(bench: &Bench, mut run: Child, number: c_int) -> std::process::Exit
 /// An interrupt takes the temporary file away, leaves the output and ends the run as interrupts do.
 #[test]
 fn interrupts() {
-    let bench = Bench::new("interrupts");
-    let plate = [b"P5 4096 4096 255\n", &vec![7; 1 << 24][..]].concat();
-    fs::write(&bench.input, plate).expect("a large plate");
-    let output = bench.old("out.pgm", 0o644);
+    let case = Case::new("interrupts");
+    let plate = [b"P5 2048 2048 255\n", &vec![7; 1 << 22][..]].concat();
+    fs::write(&case.input, plate).expect("a large plate");
+    let output = case.old("out.pgm", 0o644);
     for number in [1, 2, 15] {
         let mut ended = false;
         for _ in 0..20 {
-            let run = bench.open(&output).spawn().expect("a run");
-            let status = interrupt(&bench, run, number);
-            assert_eq!(bench.folder.names(), ["in.pgm", "out.pgm"]);
+            let run = case.open(&output).spawn().expect("a run");
+            let status = interrupt(&case, run, number);
+            assert_eq!(case.folder.names(), ["in.pgm", "out.pgm"]);
             if status.signal() == Some(number) {
                 assert_eq!(fs::read(&output).expect("OUT"), b"as it was");
                 ended = true;
@@ -301,45 +307,29 @@ fn interrupts() {
         assert!(ended, "no run was interrupted by {number}");
     }
     // an interrupt that is ignored from the start, as `nohup` has it, is ignored
-    let words = [
-        OPEN[0],
-        OPEN[1],
-        OPEN[2],
-        path_text(&bench.input),
-        path_text(&output),
-    ];
-    let run = by_shell("trap '' HUP; exec \"$@\"", &words).spawn();
-    let status = interrupt(&bench, run.expect("a run"), 1);
+    let run = case
+        .open_by_shell("trap '' HUP; exec \"$@\"", &output)
+        .spawn();
+    let status = interrupt(&case, run.expect("a run"), 1);
     assert_eq!(status.code(), Some(0));
-    assert_eq!(about(&output).len(), about(&bench.input).len());
-}
-
-fn path_text(path: &Path) -> &str {
-    path.to_str().expect("a name")
+    assert_eq!(about(&output).len(), about(&case.input).len());
 }
 
 /// A new output has the permissions that the process's mask leaves; an old one keeps its own, and its owner and group.
 #[test]
 fn owner_group_and_permissions() {
-    let bench = Bench::new("owner");
-    let new = bench.folder.path("new.pgm");
-    let words = [
-        OPEN[0],
-        OPEN[1],
-        OPEN[2],
-        path_text(&bench.input),
-        path_text(&new),
-    ];
-    let run = by_shell("umask 027; exec \"$@\"", &words).output();
+    let case = Case::new("owner");
+    let new = case.folder.path("new.pgm");
+    let run = case.open_by_shell("umask 027; exec \"$@\"", &new).output();
     assert_ok(&run.expect("a run"));
     assert_eq!(about(&new).mode() & 0o7777, 0o640);
     for mode in [0o600, 0o664, 0o755] {
-        let old = bench.old("old.pgm", mode);
+        let old = case.old("old.pgm", mode);
         if is_root() {
             chown(&old, Some(NOBODY), Some(NOBODY)).expect("another owner");
         }
         let before = about(&old);
-        bench.assert_opened(&old);
+        case.assert_opened(&old);
         let after = about(&old);
         assert_ne!(after.ino(), before.ino(), "a new file took its place");
         let kept = |about: &fs::Metadata| (about.mode(), about.uid(), about.gid());
@@ -350,41 +340,41 @@ fn owner_group_and_permissions() {
 /// A write-protected output is left, and replaced by force.
 #[test]
 fn a_write_protected_output() {
-    let bench = Bench::new("protected");
-    let output = bench.old("out.pgm", 0o444);
-    bench.assert_left(
+    let case = Case::new("protected");
+    let output = case.old("out.pgm", 0o444);
+    case.assert_left(
         &output,
         "out.pgm: it is write-protected; --force replaces it",
     );
     assert_eq!(fs::read(&output).expect("OUT"), b"as it was");
-    let run = bench.open(&output).arg("--force").output();
+    let run = case.open(&output).arg("--force").output();
     assert_ok(&run.expect("a run"));
     assert_eq!(fs::read(&output).expect("OUT"), small_file(OPENED));
     assert_eq!(about(&output).mode() & 0o7777, 0o444);
-    assert_eq!(bench.folder.names(), ["in.pgm", "out.pgm"]);
+    assert_eq!(case.folder.names(), ["in.pgm", "out.pgm"]);
 }
 
 /// All names of one file have the new content.
 #[test]
 fn hard_links() {
-    let bench = Bench::new("hardlinks");
-    let output = bench.folder.file("out.pgm", &[7; 1000]);
-    let other = bench.folder.path("other.pgm");
+    let case = Case::new("hardlinks");
+    let output = case.folder.file("out.pgm", &[7; 1000]);
+    let other = case.folder.path("other.pgm");
     fs::hard_link(&output, &other).expect("another name");
     let before = about(&output);
-    bench.assert_opened(&output);
+    case.assert_opened(&output);
     assert_eq!(fs::read(&other).expect("OUT"), small_file(OPENED));
     assert_eq!(about(&output).ino(), before.ino());
-    assert_eq!(bench.folder.names(), ["in.pgm", "other.pgm", "out.pgm"]);
+    assert_eq!(case.folder.names(), ["in.pgm", "other.pgm", "out.pgm"]);
 }
 
 /// Where the directory lets no new file in, or a new file could not have the owner of the old one, it is written in place.
 #[test]
 fn in_place() {
-    let bench = Bench::new("inplace");
-    let closed = bench.folder.path("closed");
+    let case = Case::new("inplace");
+    let closed = case.folder.path("closed");
     fs::create_dir(&closed).expect("a directory");
-    let output = bench.old("closed/out.pgm", 0o666);
+    let output = case.old("closed/out.pgm", 0o666);
     let before = about(&output);
     let mut modes = vec![0o555];
     if is_root() {
@@ -393,14 +383,14 @@ fn in_place() {
     for mode in modes {
         fs::write(&output, b"as it was").expect("OUT");
         set_mode(&closed, mode);
-        let mut tool = bench.open(&output);
+        let mut tool = case.open(&output);
         let run = as_user(&mut tool, &closed).output();
         assert_ok(&run.expect("a run"));
         assert_eq!(fs::read(&output).expect("OUT"), small_file(OPENED));
         let after = about(&output);
         assert_eq!((after.ino(), after.uid()), (before.ino(), before.uid()));
         let new = closed.join("new.pgm");
-        let mut tool = bench.open(&new);
+        let mut tool = case.open(&new);
         let run = as_user(&mut tool, &closed).output().expect("a run");
         let status = if mode == 0o555 { 3 } else { 0 };
         assert_eq!(run.status.code(), Some(status), "{}", text(&run.stderr));
@@ -413,17 +403,17 @@ fn in_place() {
 /// A file that a user may not write to is protected from that user.
 #[test]
 fn the_output_of_another() {
-    let bench = Bench::new("another");
+    let case = Case::new("another");
     if !is_root() {
         return; // there is no file of another user's to be made
     }
-    let output = bench.old("out.pgm", 0o644);
-    let folder = bench.folder.path("");
-    let mut tool = bench.open(&output);
+    let output = case.old("out.pgm", 0o644);
+    let folder = case.folder.path("");
+    let mut tool = case.open(&output);
     let run = as_user(&mut tool, &folder).output().expect("a run");
     assert_says_of(&run, 3, "it is write-protected; --force replaces it");
     assert_eq!(fs::read(&output).expect("OUT"), b"as it was");
-    let mut tool = bench.open(&output);
+    let mut tool = case.open(&output);
     let run = as_user(&mut tool, &folder).arg("--force").output();
     assert_ok(&run.expect("a run"));
     assert_eq!(about(&output).uid(), NOBODY);
@@ -433,24 +423,17 @@ fn the_output_of_another() {
 /// What cannot be written whole leaves the old output, or says that it does not.
 #[test]
 fn no_space() {
-    let bench = Bench::new("nospace");
+    let case = Case::new("nospace");
     let plate = [b"P5 64 64 255\n", &[7; 4096][..]].concat();
-    fs::write(&bench.input, plate).expect("a larger plate");
-    let output = bench.old("out.pgm", 0o644);
-    let words = [
-        OPEN[0],
-        OPEN[1],
-        OPEN[2],
-        path_text(&bench.input),
-        path_text(&output),
-    ];
+    fs::write(&case.input, plate).expect("a larger plate");
+    let output = case.old("out.pgm", 0o644);
     let run = || {
-        let mut shell = by_shell("ulimit -f 1; exec \"$@\"", &words); // in units of 512 or 1024 bytes
+        let mut shell = case.open_by_shell("ulimit -f 1; exec \"$@\"", &output); // in units of 512 or 1024 bytes
         shell.stdin(Stdio::null()).output().expect("a run")
     };
     assert_says_of(&run(), 3, "out.pgm: File too large");
     assert_eq!(fs::read(&output).expect("OUT"), b"as it was");
-    assert_eq!(bench.folder.names(), ["in.pgm", "out.pgm"]);
-    fs::hard_link(&output, bench.folder.path("other.pgm")).expect("another name");
+    assert_eq!(case.folder.names(), ["in.pgm", "out.pgm"]);
+    fs::hard_link(&output, case.folder.path("other.pgm")).expect("another name");
     assert_says_of(&run(), 3, "it was written in place and may be incomplete");
 }

@@ -41,7 +41,7 @@ pub fn from_record<T>(
     command: &Command,
     operation: impl FnOnce(&Record) -> Result<T, Refusal>,
 ) -> Result<T, Failure> {
-    let Input { bytes, goes_on } = read(&command.input, |_| true)?;
+    let Input { bytes, goes_on } = read(&command.input, may_be_record)?;
     let record = Record::from_bytes(bytes);
     let answer = operation(&record);
     let facts = Facts {
@@ -52,6 +52,13 @@ pub fn from_record<T>(
         limit: &command.limit.given,
     };
     judge(command, answer, &facts)
+}
+
+/// Whether more bytes can matter: not where the head of a record is malformed or outside its range.
+fn may_be_record(first: &[u8]) -> bool {
+    use Refusal::{FieldForm, FieldRange};
+    let head = Record::from_bytes(first.to_vec()).head();
+    !matches!(head, Err(FieldForm | FieldRange))
 }
 
 /// An answer on the bytes that were read. Where there are more, it counts only if these could not change it.
