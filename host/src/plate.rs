@@ -127,8 +127,9 @@ impl WorkSpace {
         connectivity: Connectivity,
         limit: u32,
     ) -> Result<Plate, Refusal> {
-        let image = plate.image(connectivity);
-        self.answered(plate, |out, work| lent::area_open(image, limit, out, work))
+        self.answered(plate, connectivity, |image, out, work| {
+            lent::area_open(image, limit, out, work)
+        })
     }
 
     /// See [`Plate::area_close`].
@@ -138,8 +139,9 @@ impl WorkSpace {
         connectivity: Connectivity,
         limit: u32,
     ) -> Result<Plate, Refusal> {
-        let image = plate.image(connectivity);
-        self.answered(plate, |out, work| lent::area_close(image, limit, out, work))
+        self.answered(plate, connectivity, |image, out, work| {
+            lent::area_close(image, limit, out, work)
+        })
     }
 
     /// See [`Plate::regional_maxima`].
@@ -148,8 +150,9 @@ impl WorkSpace {
         plate: &Plate,
         connectivity: Connectivity,
     ) -> Result<Plate, Refusal> {
-        let image = plate.image(connectivity);
-        self.answered(plate, |out, work| lent::regional_maxima(image, out, work))
+        self.answered(plate, connectivity, |image, out, work| {
+            lent::regional_maxima(image, out, work)
+        })
     }
 
     /// See [`Plate::nodes`].
@@ -189,11 +192,12 @@ impl WorkSpace {
     fn answered(
         &mut self,
         plate: &Plate,
-        operation: impl FnOnce(&mut [u8], &mut [u32]) -> u32,
+        connectivity: Connectivity,
+        operation: impl FnOnce(Image, &mut [u8], &mut [u32]) -> u32,
     ) -> Result<Plate, Refusal> {
-        let places = plate.places();
+        let (image, places) = (plate.image(connectivity), plate.places());
         let mut out = vec![0; places];
-        Refusal::check(operation(&mut out, self.lend(places)))?;
+        Refusal::check(operation(image, &mut out, self.lend(places)))?;
         Ok(Plate::new(plate.width, plate.height, out))
     }
 }

@@ -74,7 +74,7 @@ fn about(path: &Path) -> fs::Metadata {
 }
 
 fn is_root() -> bool {
-    about(Path::new("/proc/self")).uid() == 0
+    fs::metadata("/proc/self").expect("this process").uid() == 0
 }
 
 /// Has a command run as a user whom permissions bind, to whom a directory is given.
@@ -436,4 +436,47 @@ fn no_space() {
     assert_eq!(case.folder.names(), ["in.pgm", "out.pgm"]);
     fs::hard_link(&output, case.folder.path("other.pgm")).expect("another name");
     assert_says_of(&run(), 3, "it was written in place and may be incomplete");
+}
+
+/// C functions that tell which of the calls that matter for a power cut are made, in order, on standard error.
+const TELLING: &str = r#"
+#define _GNU_SOURCE
+#include <dlfcn.h>
+#include <stdio.h>
+#include <sys/stat.h>
+#include <unistd.h>
+
+int fsync(int descriptor)
+{
+    struct stat about;
+    fstat(descriptor, &about);
+    dprintf(2, S_ISDIR(about.st_mode) ? "sync directory\n" : "sync file\n");
+    return ((int (*)(int))dlsym(RTLD_NEXT, "fsync"))(descriptor);
+}
+
+int rename(const char *from, const char *to)
+{
+    dprintf(2, "rename\n");
+    return ((int (*)(const char *, const char *))dlsym(RTLD_NEXT, "rename"))(from, to);
+}
+"#;
+
+/// The new file is on the disk ahead of its name, and then so is the name.
+#[cfg(target_os = "linux")]
+#[test]
+fn what_a_power_cut_leaves() {
+    let case = Case::new("sync");
+    let source = case.folder.file("telling.c", TELLING.as_bytes());
+    let library = case.folder.path("telling.so");
+    let mut compiler = Command::new("cc");
+    compiler
+        .args(["-shared", "-fPIC", "-o"])
+        .args([&library, &source]);
+    assert!(compiler.arg("-ldl").status().expect("cc").success());
+    let output = case.folder.path("out.pgm");
+    for _ in 0..2 {
+        let run = case.open(&output).env("LD_PRELOAD", &library).output();
+        let told = text(&run.expect("a run").stderr);
+        assert_eq!(told, "sync file\nrename\nsync directory\n");
+    }
 }

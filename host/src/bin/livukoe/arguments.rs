@@ -145,7 +145,8 @@ A file named - is standard input or output. The connectivity is 4 (shared sides)
 An OUT that is write-protected is left as it is, except with --force, which replaces it.
 IN.pgm is a binary PGM (P5) with the greatest grey 255, of up to 32768 x 32768 and 16777216 pixels.
 
-Exit status: 0 done; 1 refused, with the number and the reason; 2 bad usage; 3 a file cannot be read or written.
+Exit status: 0 done; 1 refused, with the number and the reason; 2 bad usage; 3 a file cannot be read or written,
+or there is not enough memory.
 ";
     text
 }
