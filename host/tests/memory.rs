@@ -20,7 +20,7 @@ fn most_mebibytes() -> usize {
 
 #[test]
 fn what_is_touched() {
-    // 4096 x 4096 pixels in five bytes and in seven: refused without their work space, which is 512 MiB
+    // 4096 x 4096 pixels in a few bytes: refused without their work space, which is 512 MiB
     for (bytes, refusal) in [
         (&[128, 32, 128, 32, 4, 1, 7][..], Refusal::FieldUnended),
         (&[128, 32, 128, 32, 4, 1, 7, 0, 0], Refusal::FieldRange),

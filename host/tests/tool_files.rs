@@ -8,8 +8,9 @@ use std::io::{Read, Seek, SeekFrom};
 use std::os::unix::fs::{chown, symlink, MetadataExt, PermissionsExt};
 use std::os::unix::process::{CommandExt, ExitStatusExt};
 use std::path::{Path, PathBuf};
-use std::process::{Child, Command, Stdio};
+use std::process::{Child, Command, ExitStatus, Stdio};
 use std::thread;
+use std::time::Duration;
 
 use tool_common::*;
 
@@ -18,6 +19,33 @@ const OPENED: [u8; 12] = [10, 10, 10, 10, 10, 30, 30, 10, 10, 10, 10, 10];
 const OPEN: [&str; 3] = ["open", "--limit", "2"];
 /// Nobody's number as a user and as a group.
 const NOBODY: u32 = 65_534;
+
+/// C functions in place of the system's, which tell on standard error which of the calls that matter for a power cut are
+/// made, in order. With SLOW in the environment there is time for an interrupt.
+const TELLING: &str = r#"
+#define _GNU_SOURCE
+#include <dlfcn.h>
+#include <stdio.h>
+#include <stdlib.h>
+#include <sys/stat.h>
+#include <unistd.h>
+
+int fsync(int descriptor)
+{
+    struct stat about;
+    fstat(descriptor, &about);
+    dprintf(2, S_ISDIR(about.st_mode) ? "sync directory\n" : "sync file\n");
+    if (getenv("SLOW"))
+        sleep(1);
+    return ((int (*)(int))dlsym(RTLD_NEXT, "fsync"))(descriptor);
+}
+
+int rename(const char *from, const char *to)
+{
+    dprintf(2, "rename\n");
+    return ((int (*)(const char *, const char *))dlsym(RTLD_NEXT, "rename"))(from, to);
+}
+"#;
 
 /// A directory with the small plate in it, and what may be said of an output there.
 struct Case {
@@ -50,6 +78,17 @@ impl Case {
     fn open_by_shell(&self, line: &str, output: &Path) -> Command {
         let files = [&self.input, output].map(|path| path.to_str().expect("a name"));
         by_shell(line, &[&OPEN[..], &files].concat())
+    }
+
+    /// The C functions of `TELLING` as a library to be loaded ahead of others.
+    fn telling(&self) -> PathBuf {
+        let source = self.folder.file("telling.c", TELLING.as_bytes());
+        let library = self.folder.path("telling.so");
+        let mut compiler = Command::new("cc");
+        compiler.args(["-shared", "-fPIC", "-o"]);
+        compiler.args([&library, &source]).arg("-ldl");
+        assert!(compiler.status().expect("cc").success());
+        library
     }
 
     fn assert_opened(&self, output: &Path) {
@@ -274,45 +313,38 @@ extern "C" {
     fn kill(process: c_int, number: c_int) -> c_int;
 }
 
-/// Sends a signal to a run as soon as its temporary file is there, and gives its end.
-fn interrupt(case: &Case, mut run: Child, number: c_int) -> std::process::ExitStatus {
+/// Sends a signal to a run that synchronises slowly, once its temporary file is there, and gives its end.
+fn interrupt(case: &Case, mut command: Command, number: c_int) -> ExitStatus {
+    let slow = command.env("LD_PRELOAD", case.telling()).env("SLOW", "1");
+    let mut run = slow.stderr(Stdio::null()).spawn().expect("a run");
     let begun = |names: Vec<String>| names.iter().any(|name| name.starts_with(".livukoe-"));
-    while !begun(case.folder.names()) && run.try_wait().expect("a run").is_none() {}
-    // SAFETY: no memory is passed; the process is a child that was not waited for, or is gone already
+    while !begun(case.folder.names()) {
+        assert_eq!(run.try_wait().expect("a run"), None, "it ended too soon");
+        thread::sleep(Duration::from_millis(1));
+    }
+    // SAFETY: no memory is passed; the process is a child that was not waited for
     unsafe { kill(run.id() as c_int, number) };
     run.wait().expect("its end")
 }
 
 /// An interrupt takes the temporary file away, leaves the output and ends the run as interrupts do.
+#[cfg(target_os = "linux")]
 #[test]
 fn interrupts() {
     let case = Case::new("interrupts");
-    let plate = [b"P5 2048 2048 255\n", &vec![7; 1 << 22][..]].concat();
-    fs::write(&case.input, plate).expect("a large plate");
     let output = case.old("out.pgm", 0o644);
+    let names = ["in.pgm", "out.pgm", "telling.c", "telling.so"];
     for number in [1, 2, 15] {
-        let mut ended = false;
-        for _ in 0..20 {
-            let run = case.open(&output).spawn().expect("a run");
-            let status = interrupt(&case, run, number);
-            assert_eq!(case.folder.names(), ["in.pgm", "out.pgm"]);
-            if status.signal() == Some(number) {
-                assert_eq!(fs::read(&output).expect("OUT"), b"as it was");
-                ended = true;
-                break;
-            }
-            assert_eq!(status.code(), Some(0), "the interrupt came too late");
-            fs::write(&output, b"as it was").expect("OUT");
-        }
-        assert!(ended, "no run was interrupted by {number}");
+        let status = interrupt(&case, case.open(&output), number);
+        assert_eq!(status.signal(), Some(number));
+        assert_eq!(fs::read(&output).expect("OUT"), b"as it was");
+        assert_eq!(case.folder.names(), names);
     }
     // an interrupt that is ignored from the start, as `nohup` has it, is ignored
-    let run = case
-        .open_by_shell("trap '' HUP; exec \"$@\"", &output)
-        .spawn();
-    let status = interrupt(&case, run.expect("a run"), 1);
-    assert_eq!(status.code(), Some(0));
-    assert_eq!(about(&output).len(), about(&case.input).len());
+    let command = case.open_by_shell("trap '' HUP; exec \"$@\"", &output);
+    assert_eq!(interrupt(&case, command, 1).code(), Some(0));
+    assert_eq!(fs::read(&output).expect("OUT"), small_file(OPENED));
+    assert_eq!(case.folder.names(), names);
 }
 
 /// A new output has the permissions that the process's mask leaves; an old one keeps its own, and its owner and group.
@@ -438,41 +470,12 @@ fn no_space() {
     assert_says_of(&run(), 3, "it was written in place and may be incomplete");
 }
 
-/// C functions that tell which of the calls that matter for a power cut are made, in order, on standard error.
-const TELLING: &str = r#"
-#define _GNU_SOURCE
-#include <dlfcn.h>
-#include <stdio.h>
-#include <sys/stat.h>
-#include <unistd.h>
-
-int fsync(int descriptor)
-{
-    struct stat about;
-    fstat(descriptor, &about);
-    dprintf(2, S_ISDIR(about.st_mode) ? "sync directory\n" : "sync file\n");
-    return ((int (*)(int))dlsym(RTLD_NEXT, "fsync"))(descriptor);
-}
-
-int rename(const char *from, const char *to)
-{
-    dprintf(2, "rename\n");
-    return ((int (*)(const char *, const char *))dlsym(RTLD_NEXT, "rename"))(from, to);
-}
-"#;
-
 /// The new file is on the disk ahead of its name, and then so is the name.
 #[cfg(target_os = "linux")]
 #[test]
 fn what_a_power_cut_leaves() {
     let case = Case::new("sync");
-    let source = case.folder.file("telling.c", TELLING.as_bytes());
-    let library = case.folder.path("telling.so");
-    let mut compiler = Command::new("cc");
-    compiler
-        .args(["-shared", "-fPIC", "-o"])
-        .args([&library, &source]);
-    assert!(compiler.arg("-ldl").status().expect("cc").success());
+    let library = case.telling();
     let output = case.folder.path("out.pgm");
     for _ in 0..2 {
         let run = case.open(&output).env("LD_PRELOAD", &library).output();
