@@ -93,8 +93,9 @@ install: $(ARCHIVE) $(SHARED) $(TOOL)
 	ln -sf liblivukoe.so.$(VERSION) $(DESTDIR)$(LIBDIR)/$(SONAME)
 	ln -sf $(SONAME) $(DESTDIR)$(LIBDIR)/liblivukoe.so
 	install -m 644 include/livukoe.h $(DESTDIR)$(INCLUDEDIR)/livukoe.h
-	sed 's,@PREFIX@,$(PREFIX),; s,@VERSION@,$(VERSION),; s,@LIBDIR@,$(LIBDIR:$(PREFIX)/%=$${prefix}/%),; \
-	    s,@INCLUDEDIR@,$(INCLUDEDIR:$(PREFIX)/%=$${prefix}/%),' install/livukoe.pc.in >$(DESTDIR)$(LIBDIR)/pkgconfig/livukoe.pc
+	sed -e 's,@PREFIX@,$(PREFIX),' -e 's,@LIBDIR@,$(LIBDIR:$(PREFIX)/%=$${prefix}/%),' \
+	    -e 's,@INCLUDEDIR@,$(INCLUDEDIR:$(PREFIX)/%=$${prefix}/%),' -e 's,@VERSION@,$(VERSION),' \
+	    install/livukoe.pc.in >$(DESTDIR)$(LIBDIR)/pkgconfig/livukoe.pc
 	chmod 644 $(DESTDIR)$(LIBDIR)/pkgconfig/livukoe.pc
 	install -m 644 install/livukoe.1 $(DESTDIR)$(MANDIR)/man1/livukoe.1
 	install -m 644 install/livukoe.bash $(DESTDIR)$(COMPLETIONDIR)/livukoe

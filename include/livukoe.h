@@ -30,7 +30,7 @@
  *     livukoe_regional_maxima  9216
  *     livukoe_node_list        9216
  *     livukoe_node_entries     9216
- *     livukoe_read_pgm        16384
+ *     livukoe_read_pgm         7168
  *     livukoe_write_record     9216
  *     livukoe_read_record      9216
  *     livukoe_cut_record       9216

@@ -75,7 +75,7 @@ enum Cover {
 
 /// The heights above which all is ice, and below which all is water.
 const SNOW_LINE: f32 = 1.63;
-const LAKE_LEVEL: f32 = 0.66;
+const LAKE_LEVEL: f32 = 0.665;
 
 /// Where snow lies below the glacier, and where water stands above the lake, on the map whose width is 1.
 const SNOWFIELDS: [(f32, f32); 4] = [(0.33, 0.10), (0.55, 0.58), (0.87, 0.30), (0.74, 0.62)];

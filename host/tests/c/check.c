@@ -150,7 +150,7 @@ static void check_joint(void)
     joint = livukoe_write_cut_list(
         SMALL, PIXELS, WIDTH, HEIGHT, 4, 2, bytes, 27, out, PIXELS, counts, 11, losses, 11, work, WORK);
     EXPECT(joint.refusal == 0 && joint.length == 27 && joint.nodes == 4 && joint.darkest == 10);
-    EXPECT(out[5] == 30 && out[11] == 10 && counts[0] == 2 && losses[0] == 100 && all(work, 0, 8 * PIXELS * sizeof *work));
+    EXPECT(out[5] == 30 && out[11] == 10 && counts[0] == 2 && losses[0] == 100 && all(work, 0, WORK * sizeof *work));
     free(bytes);
     free(out);
     free(work);
@@ -174,9 +174,9 @@ static void check_noise(uint32_t connectivity)
     EXPECT(memcmp(out, again, MANY) == 0);
     EXPECT(livukoe_area_close(image, MANY, SIDE, SIDE, connectivity, 9, out, MANY, work, 8 * MANY) == 0);
     EXPECT(livukoe_regional_maxima(image, MANY, SIDE, SIDE, connectivity, out, MANY, work, 8 * MANY) == 0);
-    uint8_t *bytes = filled(11 + 14 * MANY);
-    struct livukoe_record_length written =
-        livukoe_write_record(image, MANY, SIDE, SIDE, connectivity, bytes, 11 + 14 * MANY, work, 8 * MANY);
+    uint8_t *bytes = filled(LIVUKOE_RECORD_BYTES(MANY));
+    struct livukoe_record_length written = livukoe_write_record(
+        image, MANY, SIDE, SIDE, connectivity, bytes, LIVUKOE_RECORD_BYTES(MANY), work, LIVUKOE_WORK_NUMBERS(MANY));
     EXPECT(written.refusal == 0);
     EXPECT(livukoe_read_record(bytes, written.length, out, MANY, work, 8 * MANY).refusal == 0);
     EXPECT(memcmp(out, image, MANY) == 0);
