@@ -144,9 +144,21 @@ static void check_joint(void)
     uint8_t *bytes = filled(27), *out = filled(PIXELS);
     uint32_t *work = filled(WORK * sizeof *work), *counts = filled(11 * sizeof *counts);
     uint64_t *losses = filled(11 * sizeof *losses);
+    /* a short output or table is looked for ahead of the work space, a short record after it */
     struct livukoe_joint joint = livukoe_write_cut_list(
+        SMALL, PIXELS, WIDTH, HEIGHT, 4, 2, bytes, 26, out, PIXELS - 1, counts, 11, losses, 11, work, WORK - 1);
+    EXPECT(joint.refusal == LIVUKOE_OUTPUT_SHORT);
+    joint = livukoe_write_cut_list(
+        SMALL, PIXELS, WIDTH, HEIGHT, 4, 2, bytes, 26, out, PIXELS, counts, 11, losses, 10, work, WORK - 1);
+    EXPECT(joint.refusal == LIVUKOE_OUTPUT_SHORT);
+    joint = livukoe_write_cut_list(
+        SMALL, PIXELS, WIDTH, HEIGHT, 4, 2, bytes, 26, out, PIXELS, counts, 11, losses, 11, work, WORK - 1);
+    EXPECT(joint.refusal == LIVUKOE_WORK_SHORT && all(work, 77, WORK * sizeof *work));
+    joint = livukoe_write_cut_list(
         SMALL, PIXELS, WIDTH, HEIGHT, 4, 2, bytes, 26, out, PIXELS, counts, 11, losses, 11, work, WORK);
     EXPECT(joint.refusal == LIVUKOE_OUTPUT_SHORT && joint.length == 0 && all(bytes, 77, 27) && all(out, 77, PIXELS));
+    EXPECT(all(counts, 77, 11 * sizeof *counts) && all(losses, 77, 11 * sizeof *losses));
+    EXPECT(all(work, 0, WORK * sizeof *work));
     joint = livukoe_write_cut_list(
         SMALL, PIXELS, WIDTH, HEIGHT, 4, 2, bytes, 27, out, PIXELS, counts, 11, losses, 11, work, WORK);
     EXPECT(joint.refusal == 0 && joint.length == 27 && joint.nodes == 4 && joint.darkest == 10);
