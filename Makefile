@@ -22,9 +22,9 @@ COMPLETIONDIR ?= $(PREFIX)/share/bash-completion/completions
 VERSION := $(shell sed -n 's/^version = "\(.*\)"/\1/p' host/Cargo.toml)
 SONAME := liblivukoe.so.$(firstword $(subst ., ,$(VERSION)))
 # what is installed
-ARCHIVE ?= target/staticlib/liblivukoe.a
-SHARED ?= target/shared/liblivukoe.so.$(VERSION)
-TOOL ?= bin/livukoe
+ARCHIVE := target/staticlib/liblivukoe.a
+SHARED := target/shared/liblivukoe.so.$(VERSION)
+TOOL := bin/livukoe
 
 # the command-line tool, bin/livukoe, and the libraries for C
 all: library shared
