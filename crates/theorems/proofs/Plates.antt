@@ -144,7 +144,10 @@ module _ {k w h : ℕ} {f : List ℕ} (plate : Plate k w h f) where
 module _ {k w h : ℕ} {f : List ℕ} (plate : Plate k w h f) where
   pub closed-length : (limit : ℕ) → length (closed k w limit f) ≡ length f
   unfolding closed negative
-  closed-length limit = length-map (opened k w limit (negative f)) (λ (g : ℕ). greatestGrey - g) ∙ opened-length (negative-plate plate) limit ∙ negative-length plate
+  closed-length limit =
+      length-map (opened k w limit (negative f)) (λ (g : ℕ). greatestGrey - g)
+      ∙ opened-length (negative-plate plate) limit
+      ∙ negative-length plate
 
   pub closed-grey : (limit p : ℕ) → p < length f → grey (closed k w limit f) p ≡ greatestGrey - grey (opened k w limit (negative f)) p
   unfolding closed negative

@@ -1,5 +1,6 @@
--- The theorems about plates, in the specification's words: what a reader may rely on. Each cites the general law, which holds for any symmetric adjacency, any greys and any
--- increasing criterion or attribute (crates connectivity, opening and tree). A plate is a `Plate k w h f`: connectivity k, width w, height h, greys f.
+-- The theorems about plates, in the specification's words: what a reader may rely on. Each cites the general law, which holds for any symmetric adjacency,
+-- any greys and any increasing criterion or attribute (crates theory_connectivity, theory_opening and theory_tree). A plate is a `Plate k w h f`:
+-- connectivity k, width w, height h, greys f.
 use mathlib.Core.Path.{_≡_, refl, sym, ap, _∙_}
 use mathlib.Core.Logic.{_⊎_, _↔_}
 use mathlib.Core.Bool.{Bool, _&&_}
@@ -10,26 +11,57 @@ use lib.Dec.{T, eqb, leb, leb→le, le→leb}
 use lib.ListN.{length}
 use Rattle.meaning.specs.Component.{component}
 use Rattle.meaning.specs.Cut.{cut, darkest, lostAt, total}
-use Rattle.meaning.specs.Maxima.{LargeMaxima, MaximaKept, Maximum, flatZone, maximum}
+use Rattle.meaning.specs.Maxima.{LargeMaxima, MaximaKept, Maximum, flatZone, marks, maximum}
 use Rattle.meaning.specs.Nodes.{NodeSet, Same, areaOf, holds, levelOf, nodesOf, own, parent, rise}
 use Rattle.meaning.specs.Opening.{Region, atLeast, attribute, closed, opened, openedAt}
 use Rattle.meaning.specs.Paths.{Grid, Joined}
 use Rattle.meaning.specs.Plate.{NowhereLighter, Plate, greatestGrey, grey, negative, touch}
-use Rattle.meaning.specs.Sets.{Within, has, nth, pick, sum, table}
+use Rattle.meaning.specs.Sets.{Within, bit, has, nth, pick, sum, table}
 use Rattle.theory_connectivity.proofs.Component.{component-complete, component-sound}
-use Rattle.theory_lists.proofs.Lists.{table-same}
+use Rattle.theory_lists.proofs.Lists.{getD-table, table-same}
+use Rattle.theory_lists.proofs.Tests.{bit-no, bit-true, bit-yes}
 use Rattle.theory_opening.proofs.Absorb.{opened-cong}
 use Rattle.theory_opening.proofs.Area.{area-attribute, area-words}
 use Rattle.theory_opening.proofs.Attribute.{attribute-one, attribute-twice}
-use Rattle.theory_opening.proofs.Maxima.{maxima-cong, maxima-kept, opened-lightest}
+use Rattle.theory_opening.proofs.Maxima.{maxima-cong, maxima-kept, maximum-complete, maximum-sound, opened-lightest}
 use Rattle.theory_opening.proofs.Opening.{opened-increasing}
 use Rattle.theory_tree.specs.Tree.{Ancestor, Before, live}
 use Rattle.theory_tree.proofs.Leaves.{leaf-maximum, maximum-leaf}
 use Rattle.theory_tree.proofs.Losses.{area-total-all, cut-opened, losses-total, lost-nodes, total-lost, total-nodes}
 use Rattle.theory_tree.proofs.NodeSets.{anchor-holds, anchor-lowest, level-least, node-number, nodes-chain, number-node, number-only, parent-holds}
-use Rattle.theory_tree.proofs.Nodes.{holds-over, nested-or-apart, nodes-before, nth-inside, over-holds, own-below, own-level, own-over, parent-area, parent-below, parent-smallest, root-over}
+use Rattle.theory_tree.proofs.Nodes.{
+  holds-over,
+  nested-or-apart,
+  nodes-before,
+  nth-inside,
+  over-holds,
+  own-below,
+  own-level,
+  own-over,
+  parent-area,
+  parent-below,
+  parent-smallest,
+  root-over,
+}
 use Rattle.theory_tree.proofs.Rises.{opened-sum}
-use Rattle.theorems.proofs.Plates.{at-limit, closed-grey, cut-grey, cut-is-opened, darkest-root, negative-length, negative-plate, opened-below-plate, opened-grey, opened-length, opened-plate, plate-grid, plate-nodes, plate-some, table-grey, total-cut}
+use Rattle.theorems.proofs.Plates.{
+  at-limit,
+  closed-grey,
+  cut-grey,
+  cut-is-opened,
+  darkest-root,
+  negative-length,
+  negative-plate,
+  opened-below-plate,
+  opened-grey,
+  opened-length,
+  opened-plate,
+  plate-grid,
+  plate-nodes,
+  plate-some,
+  table-grey,
+  total-cut,
+}
 
 -- ---- 1. paths and components
 
@@ -64,7 +96,9 @@ module _ {k w h : ℕ} {f : List ℕ} (plate : Plate k w h f) where
       let e : length (negative f) ≡ n = negative-length plate in
       let o : grey (opened k w limit (negative f)) p ≤ greatestGrey = opened-plate neg limit (omega arith) .greys p (omega (arith, opened-length neg limit)) in
       let c : greatestGrey - grey (closed k w limit f) p ≡ openedAt n near (atLeast (attribute n) limit) (grey (negative f)) p =
-      (omega (arith, closed-grey plate limit p l)) ∙ opened-grey neg limit p (omega arith) ∙ ap (λ (m : ℕ). openedAt m near (atLeast (attribute m) limit) (grey (negative f)) p) e in
+      (omega (arith, closed-grey plate limit p l))
+      ∙ opened-grey neg limit p (omega arith)
+      ∙ ap (λ (m : ℕ). openedAt m near (atLeast (attribute m) limit) (grey (negative f)) p) e in
       rw c (area-words (grey (negative f)) limit t p (plate-grid plate) m l)
 
   -- ---- 4. the opening
@@ -99,7 +133,8 @@ module _ {k w h : ℕ} {f : List ℕ} (plate : Plate k w h f) where
     b .0 ∙ sym (opened-length plate limit),
     λ p l.
         let lp : p < n = rw (opened-length plate limit) at l in
-        rw (opened-grey plate limit p lp) (opened-lightest (plate-grid plate) (at-limit plate limit m) (grey f) (grey g) (b .1) (large-kept limit g (b .0) x) p lp),
+        rw (opened-grey plate limit p lp)
+        (opened-lightest (plate-grid plate) (at-limit plate limit m) (grey f) (grey g) (b .1) (large-kept limit g (b .0) x) p lp),
   )
 
   -- limit 1 changes nothing
@@ -115,7 +150,8 @@ module _ {k w h : ℕ} {f : List ℕ} (plate : Plate k w h f) where
       opened-of b (opened k w a f) n (opened-length plate a)
       ∙ table-same n (openedAt n near (atLeast (attribute n) b) (grey (opened k w a f))) (openedAt n near (atLeast (attribute n) (max a b)) (grey f))
       (λ p l.
-      opened-cong (plate-grid plate) (at-limit plate b hb) (grey (opened k w a f)) (openedAt n near (atLeast (attribute n) a) (grey f)) (opened-grey plate a) p l
+      opened-cong (plate-grid plate) (at-limit plate b hb) (grey (opened k w a f)) (openedAt n near (atLeast (attribute n) a) (grey f))
+      (opened-grey plate a) p l
       ∙ attribute-twice (plate-grid plate) (area-attribute n) a b ha hb (grey f) p l)
       ∙ sym (opened-of (max a b) f n refl)
     where
@@ -161,7 +197,9 @@ module _ {k w h : ℕ} {f : List ℕ} (plate : Plate k w h f) where
   numbers-rise = nodes-before (plate-grid plate) (plate-nodes plate)
 
   -- two nodes are nested or disjoint
-  pub nested-or-disjoint : (i j : ℕ) → Within n (holds n near (grey f) xs i) (holds n near (grey f) xs j) ⊎ (Within n (holds n near (grey f) xs j) (holds n near (grey f) xs i)
+  pub nested-or-disjoint : (i j : ℕ)
+      → Within n (holds n near (grey f) xs i) (holds n near (grey f) xs j)
+      ⊎ (Within n (holds n near (grey f) xs j) (holds n near (grey f) xs i)
       ⊎ ((p : ℕ) → p < n → T (holds n near (grey f) xs i p) → T (holds n near (grey f) xs j p) → ⊥))
   nested-or-disjoint = nested-or-apart (plate-grid plate) (plate-nodes plate)
 
@@ -184,7 +222,9 @@ module _ {k w h : ℕ} {f : List ℕ} (plate : Plate k w h f) where
 
   -- a pixel's own node holds it and has its grey for its level; its nodes are that one and its ancestors
   pub own-node : (p : ℕ) → p < n
-      → (own n near (grey f) xs p < length xs) × T (holds n near (grey f) xs (own n near (grey f) xs p) p) × (levelOf n near (grey f) xs (own n near (grey f) xs p) ≡ grey f p)
+      → (own n near (grey f) xs p < length xs)
+      × T (holds n near (grey f) xs (own n near (grey f) xs p) p)
+      × (levelOf n near (grey f) xs (own n near (grey f) xs p) ≡ grey f p)
   own-node p l = (
     own-below (plate-grid plate) (plate-nodes plate) p l,
     over-holds (plate-grid plate) (plate-nodes plate) (own n near (grey f) xs p) p (own-over (plate-grid plate) (plate-nodes plate) p l),
@@ -215,7 +255,8 @@ module _ {k w h : ℕ} {f : List ℕ} (plate : Plate k w h f) where
 
   -- the cut at p is the sum of the rises of the qualifying nodes that hold p
   pub cut-is-sum : (limit p : ℕ) → limit ≤ n → p < n
-      → grey (cut k w limit f) p ≡ sum (length xs) (λ (j : ℕ). pick (holds n near (grey f) xs j p && leb limit (areaOf n near (grey f) xs j)) (rise n near (grey f) xs j) 0)
+      → grey (cut k w limit f) p
+      ≡ sum (length xs) (λ (j : ℕ). pick (holds n near (grey f) xs j p && leb limit (areaOf n near (grey f) xs j)) (rise n near (grey f) xs j) 0)
   unfolding areaOf live
   cut-is-sum limit p m l =
       cut-grey plate limit p l
@@ -224,18 +265,21 @@ module _ {k w h : ℕ} {f : List ℕ} (plate : Plate k w h f) where
 
   -- the total of a cut is the sum over the qualifying nodes of area times rise
   pub cut-total : (limit : ℕ) → limit ≤ n
-      → total (cut k w limit f) ≡ sum (length xs) (λ (j : ℕ). pick (leb limit (areaOf n near (grey f) xs j)) (areaOf n near (grey f) xs j * rise n near (grey f) xs j) 0)
+      → total (cut k w limit f)
+      ≡ sum (length xs) (λ (j : ℕ). pick (leb limit (areaOf n near (grey f) xs j)) (areaOf n near (grey f) xs j * rise n near (grey f) xs j) 0)
   unfolding areaOf
   cut-total limit m = total-cut plate limit ∙ total-nodes (plate-grid plate) (area-attribute n) (plate-nodes plate) limit m
 
-  -- the grey lost at a is that sum over the nodes of area a, and the total of the cut at a less that of the cut at a + 1
+  -- the grey lost at a is that sum over the nodes of area a; with the total of the cut at a + 1 it makes the total of the cut at a
   pub lost-is-sum : (a : ℕ) → a < n
-      → lostAt n near (grey f) xs (attribute n) a ≡ sum (length xs) (λ (j : ℕ). pick (eqb (areaOf n near (grey f) xs j) a) (areaOf n near (grey f) xs j * rise n near (grey f) xs j) 0)
+      → lostAt n near (grey f) xs (attribute n) a
+      ≡ sum (length xs) (λ (j : ℕ). pick (eqb (areaOf n near (grey f) xs j) a) (areaOf n near (grey f) xs j * rise n near (grey f) xs j) 0)
   unfolding areaOf
   lost-is-sum = lost-nodes (plate-grid plate) (area-attribute n) (plate-nodes plate)
 
-  pub lost-is-difference : (a : ℕ) → a < n → lostAt n near (grey f) xs (attribute n) a ≡ total (cut k w a f) - total (cut k w (suc a) f)
-  lost-is-difference a h = omega (arith, total-cut plate a, total-cut plate (suc a), total-lost (plate-grid plate) (area-attribute n) (plate-nodes plate) a h)
+  pub lost-makes-cut : (a : ℕ) → a < n → lostAt n near (grey f) xs (attribute n) a + total (cut k w (suc a) f) ≡ total (cut k w a f)
+  lost-makes-cut a h =
+      omega (arith, total-cut plate a, total-cut plate (suc a), total-lost (plate-grid plate) (area-attribute n) (plate-nodes plate) a h)
 
   -- all losses plus darkest grey times pixels make the plate's total
   pub losses-make-total : sum (n - 1) (λ (i : ℕ). lostAt n near (grey f) xs (attribute n) (suc i)) + n * darkest f ≡ total f
@@ -247,3 +291,21 @@ module _ {k w h : ℕ} {f : List ℕ} (plate : Plate k w h f) where
         area-total-all (plate-grid plate) (plate-nodes plate),
         ap (λ (d : ℕ). n * d) (darkest-root plate),
       )
+
+  -- ---- 8. marks: 1 exactly where the outside neighbours of the pixel's flat zone are all strictly darker, else 0
+
+  mark-is : (p : ℕ) → p < n → nth (marks k w f) p ≡ bit (maximum n near (grey f) p)
+  unfolding marks
+  mark-is p l = getD-table n (λ (q : ℕ). bit (maximum n near (grey f) q)) p 0 l
+
+  pub mark-is-one : (p : ℕ) → p < n → nth (marks k w f) p ≡ 1 ↔ Maximum n near (grey f) p
+  mark-is-one p l = (
+    λ e. maximum-sound n near (grey f) p (bit-true (maximum n near (grey f) p) (omega (arith, mark-is p l))),
+    λ m. mark-is p l ∙ bit-yes (maximum n near (grey f) p) (maximum-complete n near (grey f) p m),
+  )
+
+  pub mark-is-zero : (p : ℕ) → p < n → nth (marks k w f) p ≡ 0 ↔ (Maximum n near (grey f) p → ⊥)
+  mark-is-zero p l = (
+    λ e m. absurd (omega (arith, mark-is-one p l .1 m)),
+    λ other. mark-is p l ∙ bit-no (maximum n near (grey f) p) (λ t. other (maximum-sound n near (grey f) p t)),
+  )
