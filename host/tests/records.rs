@@ -179,11 +179,14 @@ fn one_after_another(plate: &Plate, limit: u32, lent: &mut Buffers) -> lent::Joi
         &mut out,
         &mut work,
     );
-    if opened.refusal != 0 {
+    if ![0, 6].contains(&opened.refusal) {
         return refused(opened.refusal);
     }
     if lent.counts.len().min(lent.losses.len()) < plate.pixels() - 1 {
         return refused(5);
+    }
+    if opened.refusal == 6 {
+        return refused(6);
     }
     let Buffers {
         bytes,

@@ -11,7 +11,7 @@ ghost use Rattle.record_parse.specs.Parse.{readOf};
 ghost use Rattle.record.specs.Writing.{WrittenRecord};
 ghost use Rattle.record.specs.Reading.{ReadRecord, CutRecord, ListedSizes};
 ghost use Rattle.plate_entries.specs.Entries.{EntriesListed};
-ghost use Rattle.record_write_cut_list.specs.Joint.{Joined};
+ghost use Rattle.record_write_cut_list.specs.WriteCutList.{WrittenCutListed};
 ghost use Rattle.pgm.specs.File.{readPgm, rasterOf};
 ghost use Rattle.ink.specs.Percentage.{Percentage};
 use pgm::PgmRead;
@@ -20,7 +20,7 @@ use plate_filter::NodeList;
 use record::Head;
 use record::SizeHead;
 use record::Written;
-use record_write_cut_list::Joint;
+use record_write_cut_list::CutListed;
 
 // The area opening of a plate at a limit.
 #[no_mangle]
@@ -194,7 +194,7 @@ pub extern "C" fn livukoe_size_list(
     record::size_list(bytes, counts, losses, work)
 }
 
-// Writes the record of a plate, cuts it at a limit, and lists its sizes.
+// Writes the record of a plate, cuts it at a limit, and lists its sizes. A record that needs more bytes than were lent is refused by 5 after the work.
 #[no_mangle]
 pub extern "C" fn livukoe_write_cut_list(
     image: &[u8],
@@ -207,8 +207,8 @@ pub extern "C" fn livukoe_write_cut_list(
     counts: &mut [u32],
     losses: &mut [u64],
     work: &mut [u32],
-) -> Joint
-    ensures { λ r. ⌜ Joined connectivity width height limit (now (image .entry)) (now (bytes .entry)) (now (bytes .exit)) (now (out .entry)) (now (out .exit)) (now (counts .entry)) (now (counts .exit)) (now (losses .entry)) (now (losses .exit)) (now (work .entry)) (now (work .exit)) r ⌝ }
+) -> CutListed
+    ensures { λ r. ⌜ WrittenCutListed connectivity width height limit (now (image .entry)) (now (bytes .entry)) (now (bytes .exit)) (now (out .entry)) (now (out .exit)) (now (counts .entry)) (now (counts .exit)) (now (losses .entry)) (now (losses .exit)) (now (work .entry)) (now (work .exit)) r ⌝ }
 {
     record_write_cut_list::write_cut_list(
         image,

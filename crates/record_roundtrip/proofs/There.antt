@@ -15,7 +15,7 @@ use Rattle.meaning.specs.Paths.{Grid}
 use Rattle.meaning.specs.Plate.{Plate, connectivityFits, greatestGrey, grey, maxPixels, maxSide, touch}
 use Rattle.meaning.specs.Record.{encode, fields, nodeFields, recordOf, treeFields, varint}
 use Rattle.meaning.specs.Sets.{area, elem, gather, nth, place, span, sum, table}
-use Rattle.theory_lists.proofs.Lists.{distinct-area, getD-table, length-table, table-suc}
+use Rattle.theory_lists.proofs.Lists.{distinct-area, gather-cong, getD-table, length-table, table-suc}
 use Rattle.theory_lists.proofs.Sets.{area-le}
 use Rattle.theory_lists.proofs.Sums.{area-pos}
 use Rattle.theory_lists.proofs.Tests.{either-cases, passes}
@@ -33,11 +33,6 @@ gather-first : (m : ℕ) (g : ℕ → List ℕ) → gather (suc m) g ≡ g 0 ++ 
 unfolding gather
 gather-first zero g = sym (append-nil (g 0))
 gather-first (suc m) g = ap (λ (l : List ℕ). l ++ g (suc m)) (gather-first m g) ∙ append-assoc (g 0) (gather m (λ (i : ℕ). g (suc i))) (g (suc m))
-
-gather-cong : (m : ℕ) (g g′ : ℕ → List ℕ) → ((i : ℕ) → g i ≡ g′ i) → gather m g ≡ gather m g′
-unfolding gather
-gather-cong zero g g′ e = refl
-gather-cong (suc m) g g′ e = rw (gather-cong m g g′ e, e m)
 
 -- ---- the fields of a plate's tree
 

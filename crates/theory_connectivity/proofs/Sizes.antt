@@ -1,13 +1,11 @@
--- What sizes that fit say, as orders, and the grid of a plate whose sizes fit.
+-- What sizes that fit say, as orders.
 use mathlib.Core.Path.{_≡_}
 use mathlib.Core.Bool.{true, _&&_}
 use Prim.Native.Nat.{ℕ, _*_, _≤_}
-use native.Mathlib.Nat.{mul-comm, mul-le-mul}
+use native.Mathlib.Nat.{mul-le-mul}
 use lib.Dec.{T, leb, leb→le}
-use Rattle.meaning.specs.Paths.{Grid}
-use Rattle.meaning.specs.Plate.{gridFits, maxPixels, maxSide, touch}
+use Rattle.meaning.specs.Plate.{gridFits, maxPixels, maxSide}
 use Rattle.theory_lists.proofs.Tests.{passes, tests}
-use Rattle.theory_connectivity.proofs.Touch.{touch-grid}
 
 -- a side that fits
 pub record Side (s : ℕ) : Type 0 where
@@ -42,7 +40,3 @@ grid-sizes w h e =
 -- the product of two sides
 pub product : (w h : ℕ) → Side w → Side h → w * h ≤ maxSide * maxSide
 product w h a b = mul-le-mul {n₁ = w} {m₁ = h} {n₂ = maxSide} {m₂ = maxSide} (a .most) (b .most)
-
--- the grid of a plate that fits
-pub fits-grid : (k w h n : ℕ) → gridFits w h ≡ true → n ≡ w * h → Grid n (touch k w)
-fits-grid k w h n e p = rw (p, mul-comm w h) (touch-grid k w h (grid-sizes w h e .wide .least))
