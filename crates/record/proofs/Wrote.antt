@@ -14,7 +14,7 @@ use Rattle.work_columns.specs.Layout.{GREY}
 use Rattle.plate_refusals.proofs.Refusals.{Listable, tree-early, tree-first, tree-later, tree-none, plate-later}
 use Rattle.plate_greys.specs.Standing.{Standing}
 use Rattle.plate_greys.specs.Tree.{PlateTree, Ready}
-use Rattle.record_fields.specs.Fields.{plateIn}
+use Rattle.record_parse.specs.Steps.{greysIn}
 use Rattle.record_fields.proofs.Standing.{standing-here, standing-plate}
 use Rattle.record_tree.proofs.Finding.{cleared}
 use Rattle.record.specs.Writing.{WrittenRecord, writeAnswer, writeOut, writeRefusal, writeWork}
@@ -53,17 +53,17 @@ module _ (k w h : ℕ) (f out work : List ℕ) {r : ℕ} (e : r ≡ plateRefusal
             facts = p .facts;
           }
 
-      pub wrote-here : Standing k w h (plateIn (length f) w₁) w₁ count
+      pub wrote-here : Standing k w h (greysIn (length f) w₁) w₁ count
       wrote-here = standing-here plate-tree-standing (length f) refl
 
-      plain : plateIn (length f) w₁ ≡ f
+      plain : greysIn (length f) w₁ ≡ f
       plain = standing-plate plate-tree-standing (length f) refl
 
       refusal-is : writeRefusal k w h f out work ≡ outRefusal (length (recordOf k w h f)) (length out) 0
       unfolding writeRefusal
       refusal-is = tree-later k w h (length f) (length work) (length (recordOf k w h f)) (length out) listable
 
-      module _ {size : ℕ} (m : size ≡ length (recordOf k w h (plateIn (length f) w₁))) where
+      module _ {size : ℕ} (m : size ≡ length (recordOf k w h (greysIn (length f) w₁))) where
         size-is : size ≡ length (recordOf k w h f)
         size-is = m ∙ ap (λ (g : List ℕ). length (recordOf k w h g)) plain
 
@@ -81,7 +81,7 @@ module _ (k w h : ℕ) (f out work : List ℕ) {r : ℕ} (e : r ≡ plateRefusal
             }
 
         -- the record
-        pub wrote-done : {out′ w₂ : List ℕ} → size ≤ length out → out′ ≡ over (recordOf k w h (plateIn (length f) w₁)) out
+        pub wrote-done : {out′ w₂ : List ℕ} → size ≤ length out → out′ ≡ over (recordOf k w h (greysIn (length f) w₁)) out
             → w₂ ≡ replicate (8 * length f) 0 ++ drop (8 * length f) w₁ → WrittenRecord k w h f out out′ work w₂ (record { refusal = 0; length = size })
         unfolding writeAnswer writeOut writeWork
         wrote-done l d c =

@@ -1,13 +1,9 @@
--- The plate whose greys stand in the work space, and the fields that its columns spell. w: the work space; n: the pixels; count: the nodes.
+-- The fields that the columns of the work space spell. w: the work space; n: the pixels; count: the nodes.
 use mathlib.Core.List.{List, [], _∷_, _++_}
 use Prim.Native.Nat.{ℕ, suc, _-_, _≤_, _<_}
 use Rattle.meaning.specs.Sets.{gather, table}
 use Rattle.work_columns.specs.Columns.{Room, col}
-use Rattle.work_columns.specs.Layout.{AREA, GREY, LEVEL, OWN, PARENT}
-
--- the plate whose n greys stand in the work space
-abbrev pub plateIn : ℕ → List ℕ → List ℕ
-plateIn n w = table n (col GREY n w)
+use Rattle.work_columns.specs.Layout.{AREA, LEVEL, OWN, PARENT}
 
 -- a node after the root, as `nodeFields` has it
 unfoldable pub nodeColumns : ℕ → List ℕ → ℕ → List ℕ

@@ -28,7 +28,7 @@ told : (c : tie.After-known-told) → PlateSpelt (now (start c .args .bytes)) (n
 told c =
     let p = c .before .before .before .before .before .parse-record in
     let s = start c .args in
-    spelt (now (s .bytes)) (parse (now (s .bytes)) (length (now (s .work)))) refl (p .ensures .0) (p .ensures .1) (c .before .p .given .1)
+    spelt (now (s .bytes)) (p .ensures .0) (p .ensures .1) (c .before .p .given .1)
 
 parse-record-requires : tie.Need-parse-record-requires
 parse-record-requires c κs = search needs
@@ -47,7 +47,7 @@ unfolding readOf parse
 returns c =
     let s = c .before .before .before .before .before .before .before .before .args in
     let p = c .before .before .before .before .parse-record in
-    unspelt-found (now (s .bytes)) (parse (now (s .bytes)) (length (now (s .work)))) (p .ensures .0) (p .ensures .1) (c .before .match .keys2) (c .unspelt .ensures)
+    unspelt-found (now (s .bytes)) (now (s .work)) (p .last .1 .0) (p .result) (p .ensures .0) (p .ensures .1) (c .before .match .keys2) (c .unspelt .ensures)
 
 mul-n : tie.Need-mul-n
 mul-n c = omega (arith, spelt-few (told c))
@@ -65,10 +65,10 @@ cast-build-tree-3 : tie.Need-cast-build-tree-3
 cast-build-tree-3 c = search needs
 
 build-tree-requires : tie.Need-build-tree-requires
-build-tree-requires c κs = spelt-buildable (told (c .before)) refl
+build-tree-requires c κs = spelt-buildable (told (c .before))
 
 same-requires : tie.Need-same-requires
-same-requires c κs = spelt-here (told (c .before .before .before .before .before)) refl (c .before .before .before .build-tree .ensures)
+same-requires c κs = spelt-here (told (c .before .before .before .before .before)) (c .before .before .before .build-tree .ensures)
 
 same-length-2 : tie.Need-same-length-2
 same-length-2 c = search needs
@@ -76,7 +76,7 @@ same-length-2 c = search needs
 returns-2 : tie.Need-returns-2
 returns-2 c =
     let b = c .before .before .before .before .before in
-    found-different (told (b .before .before)) refl (b .build-tree .ensures) (sym (c .before .same .ensures) ∙ not-true _ (c .if1 .taken))
+    found-different (told (b .before .before)) (b .build-tree .ensures) (sym (c .before .same .ensures) ∙ not-true _ (c .if1 .taken))
 
 same-length-3 : tie.Need-same-length-3
 same-length-3 c = search needs
@@ -84,7 +84,7 @@ same-length-3 c = search needs
 returns-3 : tie.Need-returns-3
 returns-3 c =
     let b = c .before .before .before .before .before in
-    found-tree (told (b .before .before)) refl (b .build-tree .ensures) (sym (c .before .same .ensures) ∙ not-false _ (c .if1 .left))
+    found-tree (told (b .before .before)) (b .build-tree .ensures) (sym (c .before .same .ensures) ∙ not-false _ (c .if1 .left))
 
 pub read-tree-spec : {M : Type 1} → statement M
 read-tree-spec =
