@@ -3,6 +3,8 @@ use borrow.Author.Needs.{needs}
 use Rattle.record.proofs.cut_record.Statement.{statement}
 use Rattle.record.proofs.cut_record.Tie as tie
 use native.Mathlib.Omega.{arith}
+use mathlib.Core.List.{List}
+use Prim.Native.Nat.{ℕ}
 use denote.Ref.{now}
 use lib.ListN.{length}
 use Rattle.record_parse.specs.Parse.{readOf}
@@ -29,6 +31,9 @@ refused : (c : tie.After-give-up) → let t = asked c in let s = start t .args i
 refused c =
     let t = asked c .read-tree in
     stopped (t .result) (t .ensures) (c .before .before .match .keys2) (c .give-up .ensures .0) (c .give-up .ensures .1)
+
+abbrev lent : tie.After-known-told → List ℕ
+lent c = now (start (c .before .before .before .before .before) .args .out)
 
 -- the cut is written
 abbrev cut : tie.After-clear2 → tie.After-cut-plate
@@ -89,7 +94,7 @@ cut-plate-requires : tie.Need-cut-plate-requires
 cut-plate-requires c κs =
     let e = c .before .before in
     let b = e .before .before in
-    (tree-stands (there b), cut-fits (there b) (now (start (b .before .before .before .before .before) .args .out)) (e .before .cut-refusal .ensures) (e .if1 .left))
+    (tree-stands (there b), cut-fits (there b) (lent b) (e .before .cut-refusal .ensures) (e .if1 .left))
 
 clear-requires-2 : tie.Need-clear-requires-2
 clear-requires-2 c κs =
@@ -107,7 +112,7 @@ returns-3 c =
     let d = c .before .before in
     let e = fits (cut d) in
     let b = e .before .before in
-    cut-done (there b) (now (start (b .before .before .before .before .before) .args .out)) (e .before .cut-refusal .ensures) (e .if1 .left) (cut d .cut-plate .ensures) (d .clear2 .ensures)
+    cut-done (there b) (lent b) (e .before .cut-refusal .ensures) (e .if1 .left) (cut d .cut-plate .ensures) (d .clear2 .ensures)
 
 pub cut-record-spec : {M : Type 1} → statement M
 cut-record-spec =

@@ -40,7 +40,9 @@ fits c = c .before .before .before .before
 abbrev listed : tie.After-darkest-of → tie.After-list-sizes
 listed c = c .before .before .before .before .before .before
 
-long-enough : (c : tie.Else1) → let s = start (c .before .before .before .before .before .before .before) .args in let g = c .before .before .before .f .given .0 in
+long-enough : (c : tie.Else1) →
+    let s = start (c .before .before .before .before .before .before .before) .args in
+    let g = c .before .before .before .f .given .0 in
     (ltb (length (now (s .counts))) (g .0 * g .1 .0 - 1) || ltb (length (now (s .losses))) (g .0 * g .1 .0 - 1)) ≡ false
 long-enough c = sym (c .before .tables-short .ensures) ∙ c .if1 .left
 
