@@ -36,10 +36,15 @@ tree c = c .before .before .before .before
 tree-refusal-requires : tie.Need-tree-refusal-requires
 tree-refusal-requires c κs = search needs
 
+refused-written-requires : tie.Need-refused-written-requires
+refused-written-requires c κs = search needs
+
 returns : tie.Need-returns
 returns c =
-    let s = start (c .before) .args in
-    wrote-refused (s .connectivity) (s .width) (s .height) (now (s .image)) (now (s .out)) (now (s .work)) (c .before .tree-refusal .ensures) (c .if1 .taken)
+    let t = c .before in
+    let s = start (t .before) .args in
+    rw (c .refused-written .ensures)
+    (wrote-refused (s .connectivity) (s .width) (s .height) (now (s .image)) (now (s .out)) (now (s .work)) (t .before .tree-refusal .ensures) (t .if1 .taken))
 
 plate-tree-requires : tie.Need-plate-tree-requires
 plate-tree-requires c κs = wrote-ready (listable (c .before))
@@ -50,15 +55,18 @@ measure-requires c κs = wrote-here (grown (c .before .before .before))
 clear-requires : tie.Need-clear-requires
 clear-requires c κs = search needs
 
+refused-written-requires-2 : tie.Need-refused-written-requires-2
+refused-written-requires-2 c κs = search needs
+
 same-length : tie.Need-same-length
 same-length c = search needs
 
 returns-2 : tie.Need-returns-2
 returns-2 c =
-    let d = c .before .before in
+    let d = c .before .before .before in
     let t = d .before .before in
     let m = t .before in
-    wrote-short (grown (tree m)) (m .measure .ensures) (d .clear .ensures) (t .if2 .taken)
+    rw (c .refused-written2 .ensures) (wrote-short (grown (tree m)) (m .measure .ensures) (d .clear .ensures) (t .if2 .taken))
 
 write-requires : tie.Need-write-requires
 write-requires c κs =
@@ -87,10 +95,12 @@ write-record-spec =
     tie.close
     (tie.spec
     tree-refusal-requires
+    refused-written-requires
     returns
     plate-tree-requires
     measure-requires
     clear-requires
+    refused-written-requires-2
     same-length
     returns-2
     write-requires
