@@ -16,7 +16,7 @@ use Rattle.record_varint.proofs.Loops.{Matched, Measured, Wrote, matched-differ
 use Rattle.record_parse.specs.Parse.{sameBytes}
 use Rattle.plate_greys.specs.Standing.{Standing}
 use Rattle.record_parse.specs.Steps.{greysIn}
-use Rattle.record_fields.specs.Fields.{Spelt, columnFields}
+use Rattle.record_fields.specs.Fields.{TreeSpelt, columnFields}
 use Rattle.record_fields.proofs.Bytes.{starts-differ, starts-same}
 use Rattle.record_fields.proofs.Fields.{column-end, column-inside}
 use Rattle.record_fields.proofs.Standing.{standing-record, standing-spelt}
@@ -24,12 +24,13 @@ use Rattle.record_fields.proofs.Standing.{standing-record, standing-spe
 -- ---- measuring
 
 pub record Measuring (k wd ht n : ℕ) (w : List ℕ) (count i size : ℕ) : Type 0 where
-  pub spelt : Spelt n w count
+  pub spelt : TreeSpelt n w count
   pub within : i ≤ 3 * count + 3 + n
   pub measured : Measured (columnFields k wd ht n w count) i size
 
 pub measuring-first : {k wd ht : ℕ} (n : ℕ) {w : List ℕ} {count : ℕ} → Standing k wd ht (greysIn n w) w count → Measuring k wd ht n w count 0 0
-measuring-first {k} {wd} {ht} n {w} {count} s = record { spelt = standing-spelt n s; within = omega arith; measured = measured-first (columnFields k wd ht n w count) }
+measuring-first {k} {wd} {ht} n {w} {count} s =
+    record { spelt = standing-spelt n s; within = omega arith; measured = measured-first (columnFields k wd ht n w count) }
 
 module _ {k wd ht n : ℕ} {w : List ℕ} {count i size : ℕ} (m : Measuring k wd ht n w count i size) where
   pub measuring-more : {v b : ℕ} → i < 3 * count + 3 + n → v ≡ nth (columnFields k wd ht n w count) i → b ≡ length (varint v)
@@ -49,7 +50,7 @@ module _ {k wd ht n : ℕ} {w : List ℕ} {count i size : ℕ} (m : Measuring k 
 -- ---- writing into d, which is o by now
 
 pub record Writing (k wd ht n : ℕ) (w : List ℕ) (count : ℕ) (d o : List ℕ) (i at : ℕ) : Type 0 where
-  pub spelt : Spelt n w count
+  pub spelt : TreeSpelt n w count
   pub within : i ≤ 3 * count + 3 + n
   pub enough : length (encode (columnFields k wd ht n w count)) ≤ length d
   pub wrote : Wrote (columnFields k wd ht n w count) d o i at
@@ -87,7 +88,7 @@ module _ {k wd ht n : ℕ} {w : List ℕ} {count : ℕ} {d o : List ℕ} {i at :
 -- ---- comparing the bytes s
 
 pub record Comparing (k wd ht n : ℕ) (w : List ℕ) (count : ℕ) (s : List ℕ) (i at : ℕ) : Type 0 where
-  pub spelt : Spelt n w count
+  pub spelt : TreeSpelt n w count
   pub within : i ≤ 3 * count + 3 + n
   pub matched : Matched (columnFields k wd ht n w count) s i at
 

@@ -18,15 +18,15 @@ columnFields k wd ht n w count =
     ∷ (gather (count - 1) (λ (i : ℕ). nodeColumns n w (suc i)) ++ table n (col OWN n w))
 
 -- the parent of node i comes no later than i, and is not lighter
-pub record Raised (n : ℕ) (w : List ℕ) (i : ℕ) : Type 0 where
+pub record ParentFits (n : ℕ) (w : List ℕ) (i : ℕ) : Type 0 where
   pub room : Room w n
   pub below : i < n
   pub back : col PARENT n w i ≤ i
   pub rises : col LEVEL n w (col PARENT n w i) ≤ col LEVEL n w i
 
 -- so it is of each node after the root
-pub record Spelt (n : ℕ) (w : List ℕ) (count : ℕ) : Type 0 where
+pub record TreeSpelt (n : ℕ) (w : List ℕ) (count : ℕ) : Type 0 where
   pub room : Room w n
   pub some-nodes : 0 < count
   pub few-nodes : count ≤ n
-  pub raised : (i : ℕ) → 0 < i → i < count → Raised n w i
+  pub raised : (i : ℕ) → 0 < i → i < count → ParentFits n w i

@@ -10,7 +10,7 @@ ghost use Rattle.meaning.specs.Answers.{over};
 ghost use Rattle.plate_greys.specs.Standing.{Standing};
 ghost use Rattle.record_parse.specs.Parse.{sameBytes};
 ghost use Rattle.record_parse.specs.Steps.{greysIn};
-ghost use Rattle.record_fields.specs.Fields.{nodeColumns, columnFields, Raised, Spelt};
+ghost use Rattle.record_fields.specs.Fields.{nodeColumns, columnFields, ParentFits, TreeSpelt};
 
 const OWN: usize = 1;
 
@@ -22,7 +22,7 @@ const AREA: usize = 7;
 
 // Of node i, after the root: 0 the step back to its parent's number, 1 its rise above the parent's level, 2 its area.
 fn node_field(w: &[u32], n: usize, i: usize, part: usize) -> usize
-    requires { ⌜ Raised n (now w) i ⌝ }
+    requires { ⌜ ParentFits n (now w) i ⌝ }
     requires { ⌜ part < 3 ⌝ }
     ensures { λ r. ⌜ (r ≡ nth (nodeColumns n (now (w .entry)) i) part) × (r < 4294967296) ⌝ }
 {
@@ -48,7 +48,7 @@ fn head_field(
     count: usize,
     i: usize,
 ) -> u32
-    requires { ⌜ Spelt n (now w) count ⌝ }
+    requires { ⌜ TreeSpelt n (now w) count ⌝ }
     requires { ⌜ i < 6 ⌝ }
     ensures { λ r. ⌜ r ≡ nth (columnFields connectivity width height n (now (w .entry)) count) i ⌝ }
 {
@@ -80,7 +80,7 @@ fn front_field(
     count: usize,
     i: usize,
 ) -> u32
-    requires { ⌜ Spelt n (now w) count ⌝ }
+    requires { ⌜ TreeSpelt n (now w) count ⌝ }
     requires { ⌜ i < 3 * count + 3 ⌝ }
     ensures { λ r. ⌜ r ≡ nth (columnFields connectivity width height n (now (w .entry)) count) i ⌝ }
 {
@@ -101,7 +101,7 @@ fn field_at(
     count: usize,
     i: usize,
 ) -> u32
-    requires { ⌜ Spelt n (now w) count ⌝ }
+    requires { ⌜ TreeSpelt n (now w) count ⌝ }
     requires { ⌜ i < 3 * count + 3 + n ⌝ }
     ensures { λ r. ⌜ r ≡ nth (columnFields connectivity width height n (now (w .entry)) count) i ⌝ }
 {

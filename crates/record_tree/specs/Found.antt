@@ -34,10 +34,10 @@ pub record FoundIs (P : Parsed) (w w′ : List ℕ) (r : Found) : Type 0 where
   pub space : FoundWork r w w′
 
 -- the specification's number of a refusal
-abbrev pub numberOf : Found → ℕ
-numberOf (Early number) = number
-numberOf (Late number pixels) = number
-numberOf (Tree w h k count) = 0
+abbrev pub foundNumber : Found → ℕ
+foundNumber (Early number) = number
+foundNumber (Late number pixels) = number
+foundNumber (Tree w h k count) = 0
 
 -- there are columns to clear
 abbrev pub Clearable : Found → List ℕ → Type 0
