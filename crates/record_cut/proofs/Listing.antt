@@ -11,7 +11,7 @@ use Rattle.theory_lists.proofs.Lists.{length-table}
 use Rattle.work_columns.specs.Columns.{Room, col}
 use Rattle.work_columns.specs.Layout.{AREA, LEVEL, PARENT}
 use Rattle.maxtree_values.proofs.Tables.{written-over}
-use Rattle.record_cut.specs.Sizes.{Inner, Listable, byArea, lossOf, tally}
+use Rattle.record_cut.specs.Sizes.{Inner, SizesListable, byArea, lossOf, tally}
 use Rattle.record_cut.proofs.Tally.{over-drop, tallies-at, tallies-first, tallies-more, tally-le}
 
 -- a node's loss is small
@@ -21,7 +21,8 @@ loss-low {n} {w} {j} r a =
     (omega (arith, a .level))
 
 -- from the entries that are read
-module _ (n : ℕ) (w : List ℕ) (j : ℕ) {p a l b : ℕ} (ep : p ≡ col PARENT n w j) (ea : a ≡ col AREA n w j) (el : l ≡ col LEVEL n w j) (eb : b ≡ col LEVEL n w p) where
+module _ (n : ℕ) (w : List ℕ) (j : ℕ) {p a l b : ℕ} (ep : p ≡ col PARENT n w j) (ea : a ≡ col AREA n w j) (el : l ≡ col LEVEL n w j)
+    (eb : b ≡ col LEVEL n w p) where
   below-is : b ≡ col LEVEL n w (col PARENT n w j)
   below-is = eb ∙ ap (col LEVEL n w) ep
 
@@ -38,7 +39,7 @@ pub record Tallying (n count : ℕ) (w : List ℕ) (v : ℕ → ℕ) (t t′ : L
   pub len : length t′ ≡ length t
   pub made : t′ ≡ byArea n w v j ++ drop (n - 1) t
 
-module _ {n count : ℕ} {w : List ℕ} (can : Listable n w count) (v : ℕ → ℕ) where
+module _ {n count : ℕ} {w : List ℕ} (can : SizesListable n w count) (v : ℕ → ℕ) where
   pub tallying-first : {t : List ℕ} (d : List ℕ) → t ≡ over (table (n - 1) (λ (i : ℕ). 0)) d → Tallying n count w v t t 1
   tallying-first {t} d e = record {
     first = omega arith;

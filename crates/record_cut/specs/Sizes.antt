@@ -31,7 +31,7 @@ pub record Inner (n : ℕ) (w : List ℕ) (j : ℕ) : Type 0 where
   pub rises : col LEVEL n w (col PARENT n w j) ≤ col LEVEL n w j
 
 -- the root is the whole plate, and every other node a part of it
-pub record Listable (n : ℕ) (w : List ℕ) (count : ℕ) : Type 0 where
+pub record SizesListable (n : ℕ) (w : List ℕ) (count : ℕ) : Type 0 where
   pub room : Room w n
   pub some-nodes : 0 < count
   pub few : count ≤ n

@@ -9,7 +9,7 @@ ghost use Rattle.meaning.specs.Sets.{table};
 ghost use Rattle.work_columns.specs.Columns.{Room, col};
 ghost use Rattle.work_columns.specs.Layout.{AREA, PARENT};
 ghost use Rattle.record_cut.specs.Climbs.{Climb, Climbable, ClimbedAll};
-ghost use Rattle.record_cut.specs.Sizes.{Inner, Listable, byArea, lossOf};
+ghost use Rattle.record_cut.specs.Sizes.{Inner, SizesListable, byArea, lossOf};
 ghost use Rattle.record_cut.specs.Standing.{CutWritten, OfPlate, SizesWritten, Stands, TablesFit};
 
 const LEVEL: usize = 3;
@@ -98,7 +98,7 @@ fn loss_of(w: &[u32], n: usize, j: usize) -> usize
 
 // The number of nodes of each area from 1 to n - 1.
 fn count_areas(w: &[u32], n: usize, count: usize, counts: &mut [u32])
-    requires { ⌜ Listable n (now w) count ⌝ }
+    requires { ⌜ SizesListable n (now w) count ⌝ }
     requires { ⌜ n - 1 ≤ length (now counts) ⌝ }
     ensures { λ _. ⌜ now (counts .exit) ≡ over (byArea n (now (w .entry)) (λ (j : ℕ). 1) count) (now (counts .entry)) ⌝ }
 {
@@ -114,7 +114,7 @@ fn count_areas(w: &[u32], n: usize, count: usize, counts: &mut [u32])
 
 // The grey lost with the nodes of each area from 1 to n - 1.
 fn sum_losses(w: &[u32], n: usize, count: usize, losses: &mut [u64])
-    requires { ⌜ Listable n (now w) count ⌝ }
+    requires { ⌜ SizesListable n (now w) count ⌝ }
     requires { ⌜ n - 1 ≤ length (now losses) ⌝ }
     ensures { λ _. ⌜ now (losses .exit) ≡ over (byArea n (now (w .entry)) (lossOf n (now (w .entry))) count) (now (losses .entry)) ⌝ }
 {

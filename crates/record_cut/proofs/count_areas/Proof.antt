@@ -48,7 +48,8 @@ slice-read-counts c =
     let l = c .before .before .before in
     let k = l .before .before .before in
     let s = k .before .before .before .before in
-    omega (arith, tallying-place (s .pre .0) one (l .loop .inv) (c .before .before .loop-test .taken) (c .before .get .ensures .0), l .loop .inv .len, k .clear-counts .kept .0)
+    let place = tallying-place (s .pre .0) one (l .loop .inv) (c .before .before .loop-test .taken) (c .before .get .ensures .0) in
+    omega (arith, place, l .loop .inv .len, k .clear-counts .kept .0)
 
 add-counts : tie.Need-add-counts Inv-loop μ-loop
 add-counts c =

@@ -54,7 +54,8 @@ slice-read-losses c =
     let s = k .before .before .before .before in
     omega (
       arith,
-      tallying-place (s .pre .0) (lossOf (s .args .n) (now (s .args .w))) (l .loop .inv) (c .before .before .before .loop-test .taken) (c .before .before .get .ensures .0),
+      tallying-place (s .pre .0) (lossOf (s .args .n) (now (s .args .w))) (l .loop .inv) (c .before .before .before .loop-test .taken)
+          (c .before .before .get .ensures .0),
       l .loop .inv .len,
       k .clear-losses .kept .0,
     )
@@ -66,7 +67,8 @@ add-losses c =
     let can = s .pre .0 in
     omega (
       arith,
-      tallying-low can (lossOf (s .args .n) (now (s .args .w))) (l .loop .inv) (c .before .before .before .loop-test .taken) (c .before .before .get .ensures .0) 4278190080
+      tallying-low can (lossOf (s .args .n) (now (s .args .w))) (l .loop .inv) (c .before .before .before .loop-test .taken)
+          (c .before .before .get .ensures .0) 4278190080
           (λ i h m. loss-low (can .room) (can .inner i h m)),
       c .before .loss-of .ensures .1,
       l .loop .inv .bound,
@@ -90,7 +92,8 @@ loop-again : tie.Need-loop-again Inv-loop μ-loop
 loop-again c =
     let l = c .before .before .before .before in
     let s = l .before .before .before .before .before .before .before in
-    tallying-more (s .pre .0) (lossOf (s .args .n) (now (s .args .w))) (l .loop .inv) (c .before .before .before .loop-test .taken) (c .before .before .get .ensures .0) _
+    tallying-more (s .pre .0) (lossOf (s .args .n) (now (s .args .w))) (l .loop .inv) (c .before .before .before .loop-test .taken)
+    (c .before .before .get .ensures .0) _
     (rw (c .before .loss-of .ensures .0))
 
 same-length : tie.Need-same-length Inv-loop μ-loop
@@ -100,7 +103,8 @@ returns : tie.Need-returns Inv-loop μ-loop
 returns c =
     let b = c .before .before .before .before in
     let s = b .before .before .before .before in
-    tallying-done (s .pre .0) (lossOf (s .args .n) (now (s .args .w))) (now (s .args .losses)) (b .clear-losses .ensures) (c .before .loop .inv) (c .loop-test .left)
+    tallying-done (s .pre .0) (lossOf (s .args .n) (now (s .args .w))) (now (s .args .losses)) (b .clear-losses .ensures) (c .before .loop .inv)
+    (c .loop-test .left)
 
 pub sum-losses-spec : {M : Type 1} → statement M
 sum-losses-spec =
