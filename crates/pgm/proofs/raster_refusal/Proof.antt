@@ -5,7 +5,7 @@ use native.Mathlib.Omega.{arith}
 use borrow.Author.Tests.{not-true, not-false, eq-eqb, ne-eqb, lt-ltb, le-ltb}
 use Rattle.meaning.specs.Plate.{gridFits}
 use Rattle.pgm.specs.File.{rasterRefusal}
-use Rattle.pgm.proofs.Sizes.{pixels-most}
+use Rattle.theory_connectivity.proofs.Sizes.{grid-sizes}
 use Rattle.pgm.proofs.raster_refusal.Statement.{statement}
 use Rattle.pgm.proofs.raster_refusal.Tie as tie
 
@@ -25,10 +25,10 @@ unfolding rasterRefusal
 returns-2 c = rw (fits (c .before), ne-eqb _ _ (c .if2 .taken))
 
 mul-pixels : tie.Need-mul-pixels
-mul-pixels c = omega (arith, pixels-most _ _ (fits (c .before)))
+mul-pixels c = omega (arith, grid-sizes _ _ (fits (c .before)) .few-pixels)
 
 cast-pixels : tie.Need-cast-pixels
-cast-pixels c = omega (arith, pixels-most _ _ (fits (c .before)))
+cast-pixels c = omega (arith, grid-sizes _ _ (fits (c .before)) .few-pixels)
 
 returns-3 : tie.Need-returns-3
 unfolding rasterRefusal

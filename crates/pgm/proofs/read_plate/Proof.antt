@@ -1,9 +1,8 @@
 -- A plate after a sound header.
 use borrow.Author.Needs.{needs}
 use denote.Ref.{now}
-use lib.ListN.{length-drop}
-use Rattle.pgm.proofs.Sizes.{room-enough}
-use Rattle.pgm.proofs.Reading.{plate-refused, plate-read, part}
+use lib.ListN.{drop, length-drop}
+use Rattle.pgm.proofs.Reading.{plate-refused, plate-fits, plate-read, part}
 use Rattle.pgm.proofs.read_plate.Statement.{statement}
 use Rattle.pgm.proofs.read_plate.Tie as tie
 
@@ -13,14 +12,14 @@ sub-raster-refusal c = search needs
 raster-refusal-requires : tie.Need-raster-refusal-requires
 raster-refusal-requires c κs = search needs
 
-refuse-requires : tie.Need-refuse-requires
-refuse-requires c κs = search needs
+refused-read-requires : tie.Need-refused-read-requires
+refused-read-requires c κs = search needs
 
 returns : tie.Need-returns
 returns c =
     let st = c .before .before .before .before .before in
     plate-refused _ _ _ _ _ _ (length-drop (st .args .at) (now (st .args .file))) (c .before .before .raster-refusal .ensures) (c .before .if1 .taken)
-    (c .refuse .ensures)
+    (c .refused-read .ensures)
 
 sub-copy-over : tie.Need-sub-copy-over
 sub-copy-over c = search needs
@@ -34,8 +33,10 @@ part-copy-over-end c = search needs
 copy-over-requires : tie.Need-copy-over-requires
 copy-over-requires c κs =
     let st = c .before .before .before .before .before .before in
-    let room = room-enough _ _ _ _ _ (c .before .before .before .raster-refusal .ensures) (c .before .before .if1 .left) in
-    rw (part (now (st .args .file)) (st .args .at), length-drop (st .args .at) (now (st .args .file))) room
+    let s = now (st .args .file) in
+    rw (part s (st .args .at))
+    (plate-fits _ _ _ (drop (st .args .at) s) (now (st .args .out)) _ (length-drop (st .args .at) s)
+    (c .before .before .before .raster-refusal .ensures) (c .before .before .if1 .left))
 
 same-length : tie.Need-same-length
 same-length c = search needs
@@ -54,7 +55,7 @@ read-plate-spec =
     (tie.spec
     sub-raster-refusal
     raster-refusal-requires
-    refuse-requires
+    refused-read-requires
     returns
     sub-copy-over
     part-copy-over-start
