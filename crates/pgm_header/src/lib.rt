@@ -7,7 +7,8 @@ ghost use lib.Seq.{slice};
 ghost use Rattle.pgm_header.specs.Grammar.{blank, lineEnd, inComment, digit, front, decimal, mix, comment, gap, oneBlank, number, opening, header};
 ghost use Rattle.pgm_header.specs.Steps.{faultNumber, Stepped, stepFault, headerOf, RasterWithin, Digits, Skipped};
 
-// How many comments `skip_blanks` and `skip_comment` skip before they hand the cursor back. It bounds the depth of their calls.
+// How many comments `skip_blanks` and `skip_comment` skip before they hand the cursor back. It bounds the depth of their calls, and so the
+// stack that they need: 64 bytes for each comment.
 const TURNS: usize = 100;
 
 // A place of a file: the number of a byte, counted from 0.

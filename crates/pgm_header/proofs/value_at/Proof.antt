@@ -18,21 +18,26 @@ mul-v : tie.Need-mul-v Inv-loop μ-loop
 mul-v c = omega (arith, spelling-small (c .before .before .pre) (c .before .loop .inv) (c .loop-test .taken))
 
 shared-slice-read-v : tie.Need-shared-slice-read-v Inv-loop μ-loop
-shared-slice-read-v c = spelling-within (c .before .before .before .pre) (c .before .before .loop .inv) (c .before .loop-test .taken)
+shared-slice-read-v c =
+    let d = c .before in
+    spelling-within (d .before .before .pre) (d .before .loop .inv) (d .loop-test .taken)
 
 sub-v : tie.Need-sub-v Inv-loop μ-loop
-sub-v c = spelling-digit (c .before .before .before .pre) (c .before .before .loop .inv) (c .before .loop-test .taken) .0
+sub-v c =
+    let d = c .before in
+    spelling-digit (d .before .before .pre) (d .before .loop .inv) (d .loop-test .taken) .0
 
 cast-v : tie.Need-cast-v Inv-loop μ-loop
-cast-v c = omega (arith, spelling-digit (c .before .before .before .pre) (c .before .before .loop .inv) (c .before .loop-test .taken))
+cast-v c =
+    let d = c .before in
+    omega (arith, spelling-digit (d .before .before .pre) (d .before .loop .inv) (d .loop-test .taken))
 
 add-v : tie.Need-add-v Inv-loop μ-loop
 add-v c =
-    omega (
-      arith,
-      spelling-digit (c .before .before .before .pre) (c .before .before .loop .inv) (c .before .loop-test .taken),
-      spelling-small (c .before .before .before .pre) (c .before .before .loop .inv) (c .before .loop-test .taken),
-    )
+    let d = c .before in
+    let pre = d .before .before .pre in
+    let inv = d .before .loop .inv in
+    omega (arith, spelling-digit pre inv (d .loop-test .taken), spelling-small pre inv (d .loop-test .taken))
 
 add-i : tie.Need-add-i Inv-loop μ-loop
 add-i c = omega arith
@@ -41,7 +46,9 @@ loop-less : tie.Need-loop-less Inv-loop μ-loop
 loop-less c = omega arith
 
 loop-again : tie.Need-loop-again Inv-loop μ-loop
-loop-again c = spelling-more (c .before .before .before .pre) (c .before .before .loop .inv) (c .before .loop-test .taken)
+loop-again c =
+    let d = c .before in
+    spelling-more (d .before .before .pre) (d .before .loop .inv) (d .loop-test .taken)
 
 returns : tie.Need-returns Inv-loop μ-loop
 returns c = spelling-done (c .before .before .pre) (c .before .loop .inv) (c .loop-test .left)

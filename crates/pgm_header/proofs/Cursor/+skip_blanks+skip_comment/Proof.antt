@@ -47,22 +47,23 @@ module _ (t : ℕ) where
   blanks-end-requires c κs = c .before .pre .1
 
   blanks-returns : skip-blanks-lts.Need-returns (by-blanks t) (blanks-at t) skip-blanks.Post
-  blanks-returns c = blanks-at-end _ _ _ (c .before .blanks-end .ensures) (c .before .before .before .pre .1) (c .if1 .taken)
+  blanks-returns c =
+      let d = c .before in
+      blanks-at-end _ _ _ (d .blanks-end .ensures) (d .before .before .pre .1) (c .if1 .taken)
 
   blanks-read : skip-blanks-lts.Need-shared-slice-read-if2 (by-blanks t) (blanks-at t) skip-blanks.Post
   blanks-read c = c .before .if1 .left
 
   blanks-returns-2 : skip-blanks-lts.Need-returns-2 (by-blanks t) (blanks-at t) skip-blanks.Post
   blanks-returns-2 c =
-      blanks-at-other _ _ _ (c .before .before .before .blanks-end .ensures) (c .before .before .before .before .before .pre .1)
-      (c .before .before .if1 .left)
-      (c .if2 .taken)
+      let e = c .before .before in
+      let d = e .before in
+      blanks-at-other _ _ _ (d .blanks-end .ensures) (d .before .before .pre .1) (e .if1 .left) (c .if2 .taken)
 
   blanks-returns-3 : skip-blanks-lts.Need-returns-3 (by-blanks t) (blanks-at t) skip-blanks.Post
   blanks-returns-3 c =
-      blanks-paused _ _ _ (c .before .before .before .before .blanks-end .ensures)
-      (c .before .before .before .before .before .before .pre .1)
-      (c .if3 .taken)
+      let d = c .before .before .before .before in
+      blanks-paused _ _ _ (d .blanks-end .ensures) (d .before .before .pre .1) (c .if3 .taken)
 
   blanks-add : skip-blanks-lts.Need-add-t5 (by-blanks t) (blanks-at t) skip-blanks.Post
   blanks-add c = omega arith
@@ -75,20 +76,19 @@ module _ (t : ℕ) where
 
   blanks-returns-4 : skip-blanks-lts.Need-returns-4 (by-blanks t) (blanks-at t) skip-blanks.Post
   blanks-returns-4 c =
-      blanks-comment _ _ _ (c .before .before .before .before .before .blanks-end .ensures)
-      (c .before .before .before .before .before .before .before .pre .1)
-      _
-      (c .before .before .before .before .if1 .left)
-      (c .before .before .if2 .left)
-      (c .before .if3 .left)
-      _
+      let f = c .before .before in
+      let e = f .before .before in
+      let d = e .before in
+      blanks-comment _ _ _ (d .blanks-end .ensures) (d .before .before .pre .1) _ (e .if1 .left) (f .if2 .left) (c .before .if3 .left) _
       (c .skip-comment .ensures)
 
   comment-end-requires : skip-comment-lts.Need-comment-end-requires (by-comment t) (comment-at t) skip-comment.Post
   comment-end-requires c κs = c .before .pre .1
 
   comment-returns : skip-comment-lts.Need-returns (by-comment t) (comment-at t) skip-comment.Post
-  comment-returns c = comment-unended _ _ _ (c .before .comment-end .ensures) (c .before .before .before .pre .1) (c .if1 .taken)
+  comment-returns c =
+      let d = c .before in
+      comment-unended _ _ _ (d .comment-end .ensures) (d .before .before .pre .1) (c .if1 .taken)
 
   comment-add : skip-comment-lts.Need-add-t5 (by-comment t) (comment-at t) skip-comment.Post
   comment-add c = omega arith
@@ -98,8 +98,8 @@ module _ (t : ℕ) where
 
   comment-returns-2 : skip-comment-lts.Need-returns-2 (by-comment t) (comment-at t) skip-comment.Post
   comment-returns-2 c =
-      comment-blanks _ _ _ (c .before .before .comment-end .ensures) (c .before .before .before .before .pre .1) _ (c .before .if1 .left) _
-      (c .skip-blanks .ensures)
+      let d = c .before .before in
+      comment-blanks _ _ _ (d .comment-end .ensures) (d .before .before .pre .1) _ (c .before .if1 .left) _ (c .skip-blanks .ensures)
 
 pub +skip-blanks+skip-comment-spec : {M : Type 1} → statement M
 +skip-blanks+skip-comment-spec =

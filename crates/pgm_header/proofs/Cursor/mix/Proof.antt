@@ -24,26 +24,33 @@ enum-known-skip : tie.Need-enum-known-skip Inv-loop μ-loop
 enum-known-skip c = search needs
 
 returns : tie.Need-returns Inv-loop μ-loop
-returns c = mixed-past (c .before .before .before .before .loop .inv) (c .before .before .before .skip-blanks .ensures) (c .before .skip .given .1)
+returns c =
+    let d = c .before .before .before in
+    mixed-past (d .before .loop .inv) (d .skip-blanks .ensures) (c .before .skip .given .1)
 
 enum-known-skip-2 : tie.Need-enum-known-skip-2 Inv-loop μ-loop
 enum-known-skip-2 c = search needs
 
 loop-less : tie.Need-loop-less Inv-loop μ-loop
 loop-less c =
-    let m = c .before .before .before .before .loop .inv in
-    let k = c .before .before .before .skip-blanks .ensures in
+    let d = c .before .before .before in
+    let m = d .before .loop .inv in
+    let k = d .skip-blanks .ensures in
     let e = c .before .skip2 .given .1 in
     omega (arith, paused-on m k e, mixed-paused m k e .within)
 
 loop-again : tie.Need-loop-again Inv-loop μ-loop
-loop-again c = mixed-paused (c .before .before .before .before .loop .inv) (c .before .before .before .skip-blanks .ensures) (c .before .skip2 .given .1)
+loop-again c =
+    let d = c .before .before .before in
+    mixed-paused (d .before .loop .inv) (d .skip-blanks .ensures) (c .before .skip2 .given .1)
 
 enum-told : tie.Need-enum-told Inv-loop μ-loop
 enum-told c = search needs
 
 returns-2 : tie.Need-returns-2 Inv-loop μ-loop
-returns-2 c = mixed-unended (c .before .before .before .loop .inv) (c .before .before .skip-blanks .ensures) (c .enum-told .given .1)
+returns-2 c =
+    let d = c .before .before in
+    mixed-unended (d .before .loop .inv) (d .skip-blanks .ensures) (c .enum-told .given .1)
 
 pub mix-spec : {M : Type 1} → statement M
 mix-spec =
