@@ -15,7 +15,7 @@ use Rattle.pgm_header.specs.Steps.{Digits, Stepped}
 use Rattle.pgm_header.specs.declared.HeaderStep.the-variants.{Number}
 use Rattle.pgm_header.proofs.Front.{ends, passes, front-end}
 
-pub digit-range : (b : ℕ) → digit b ≡ true → (48 ≤ b) × (b ≤ 57)
+digit-range : (b : ℕ) → digit b ≡ true → (48 ≤ b) × (b ≤ 57)
 unfolding digit
 digit-range b e = let (l, h) = and-eq-true-iff (leb 48 b) (leb b 57) .0 e in (leb-true 48 b l, leb-true b 57 h)
 

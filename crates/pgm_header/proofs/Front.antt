@@ -22,10 +22,10 @@ module _ (test : ℕ → Bool) where
   unfolding front
   front-end s i h = rw (drop-of-length-le s h)
 
-  pub front-stop : (s : List ℕ) (i : ℕ) → i < length s → test (getD s i 0) ≡ false → front test (drop i s) ≡ 0
+  front-stop : (s : List ℕ) (i : ℕ) → i < length s → test (getD s i 0) ≡ false → front test (drop i s) ≡ 0
   front-stop s i h e = rw (drop-cons s i 0 h) (front-miss (getD s i 0) (drop (suc i) s) e)
 
-  pub front-more : (s : List ℕ) (i : ℕ) → i < length s → test (getD s i 0) ≡ true
+  front-more : (s : List ℕ) (i : ℕ) → i < length s → test (getD s i 0) ≡ true
       → front test (drop i s) ≡ suc (front test (drop (i + 1) s))
   front-more s i h e = rw (add-one i, drop-cons s i 0 h) (front-hit (getD s i 0) (drop (suc i) s) e)
 

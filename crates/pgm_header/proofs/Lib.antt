@@ -5,3 +5,4 @@ pub mod Places
 pub mod Digits
 pub mod Parsing
 pub mod Faults
+pub mod Exact
