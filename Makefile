@@ -62,15 +62,15 @@ test: library reference
 	cargo test $(HOST) --quiet
 
 # the whole merge gate: every crate proved from nothing, every must-fail edit refused, every test
-gate: tools
+gate:
 	.ci/run
 
 # prove every crate that has changed
-check: tools
+check:
 	rt check
 
 # the second program's own tests; the cases of `vectors` and its answers to them are as stored
-reference: tools
+reference:
 	cargo test $(SECOND) --quiet
 	cargo build $(SECOND) --release --quiet
 	reference/target/release/reference cases | cmp - crates/test_vectors/stdin
