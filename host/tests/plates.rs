@@ -23,7 +23,7 @@ type Reference = fn(&[u8], u32, u32, u32, u32, &mut [u8], &mut [u32]) -> referen
 fn compare(seed: u64, proved: Proved, reference: Reference, refusals: &[u32]) {
     let (mut chance, mut seen) = (Chance::new(seed), Seen::default());
     for (case, side) in sides().enumerate() {
-        let plate = chance.ticket(side);
+        let plate = chance.job(side);
         let limit = chance.limit(plate.pixels());
         let mut out = chance.buffer(plate.pixels());
         let mut work = chance.buffer(8 * plate.pixels());
@@ -83,7 +83,7 @@ fn marking_maxima() {
 fn listing_nodes() {
     let (mut chance, mut seen) = (Chance::new(4), Seen::default());
     for (case, side) in sides().enumerate() {
-        let plate = chance.ticket(side);
+        let plate = chance.job(side);
         let nodes = count_nodes(&plate);
         let mut columns: [Vec<u32>; 4] = std::array::from_fn(|_| chance.buffer(nodes));
         let mut work = chance.buffer(8 * plate.pixels());
@@ -111,7 +111,7 @@ fn listing_nodes() {
 fn listing_entries() {
     let (mut chance, mut seen) = (Chance::new(15), Seen::default());
     for (case, side) in sides().enumerate() {
-        let plate = chance.ticket(side);
+        let plate = chance.job(side);
         let places = chance.length_near(count_nodes(&plate));
         let mut list = vec![Node::default(); places];
         let mut work = chance.buffer(8 * plate.pixels());
