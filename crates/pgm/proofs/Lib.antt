@@ -1,10 +1,5 @@
-pub mod Front
-pub mod Skipping
-pub mod Places
-pub mod Digits
+-- The laws behind reading a plate file, and its examples.
 pub mod Sizes
 pub mod Copy
-pub mod Behind
-pub mod Parsing
 pub mod Reading
 pub mod Examples

@@ -1,44 +1,30 @@
--- Sizes within the grid, and room in the output.
-use mathlib.Core.Path.{_≡_, refl, sym, _∙_}
-use mathlib.Core.Bool.{Bool, true, false, not, _&&_, and-eq-true-iff}
-use Prim.Native.Nat.{ℕ, _*_, _≤_, _<_}
-use native.Mathlib.Nat.{mul-le-mul, lt-of-le-of-lt}
+-- What the sizes say where nothing is refused after a sound header.
+use mathlib.Core.Path.{_≡_}
+use mathlib.Core.Bool.{true, not}
+use Prim.Native.Nat.{ℕ, _*_, _≤_}
 use native.Mathlib.Omega.{arith}
-use borrow.Author.Tests.{leb-true, ltb-false, eqb-false}
-use lib.Dec.{leb, ltb, eqb, lit<}
-use Rattle.meaning.specs.Plate.{gridFits, maxSide, maxPixels, greatestGrey}
-use Rattle.meaning.specs.Answers.{refuse}
+use borrow.Author.Tests.{ltb-false, not-false}
+use lib.Dec.{eqb, ltb}
+use Rattle.meaning.specs.Plate.{gridFits, greatestGrey}
+use Rattle.plate_refusals.proofs.Refusals.{refuse-none}
 use Rattle.pgm.specs.File.{rasterRefusal}
 
-pub side-most : (n : ℕ) → (leb 1 n && leb n maxSide) ≡ true → n ≤ maxSide
-side-most n e = leb-true n maxSide (and-eq-true-iff (leb 1 n) (leb n maxSide) .0 e .1)
+-- a plate of width w and height h is read: `left` bytes follow its header, and the output's length is `room`
+pub record Sized (w h left room : ℕ) : Type 0 where
+  pub sizes : gridFits w h ≡ true
+  pub long : left ≡ w * h
+  pub fits : w * h ≤ room
 
-pub pixels-most : (w h : ℕ) → gridFits w h ≡ true → w * h ≤ maxPixels
-unfolding gridFits
-pixels-most w h e =
-    leb-true (w * h) maxPixels
-    (and-eq-true-iff (leb 1 h && leb h maxSide) (leb (w * h) maxPixels) .0
-    (and-eq-true-iff (leb 1 w && leb w maxSide) ((leb 1 h && leb h maxSide) && leb (w * h) maxPixels) .0 e .1)
-    .1)
-
--- the product of two sides fits 32 bits
-pub product-fits : {w h : ℕ} → w ≤ maxSide → h ≤ maxSide → w * h < 4294967296
-product-fits hw hh = lt-of-le-of-lt (mul-le-mul hw hh) (lit< tt)
-
--- ---- nothing is refused after a sound header
-
-refuse-none : (met : Bool) {number later : ℕ} → (number ≡ 0 → ⊥) → refuse met number later ≡ 0 → (met ≡ false) × (later ≡ 0)
-refuse-none true ne e = absurd (ne e)
-refuse-none false ne e = (refl, e)
-
--- then the output holds the bytes that follow the header
-pub room-enough : (w h greatest left room : ℕ) {n : ℕ} → n ≡ rasterRefusal w h greatest left room → n ≡ 0 → left ≤ room
+pub raster-none : (w h greatest left room : ℕ) → rasterRefusal w h greatest left room ≡ 0 → Sized w h left room
 unfolding rasterRefusal
-room-enough w h greatest left room is z =
-    let e = sym is ∙ z in
-    let e₁ = refuse-none (not (gridFits w h)) (eqb-false 2 0 refl) e .1 in
-    let e₂ = refuse-none (not (eqb greatest greatestGrey)) (eqb-false 12 0 refl) e₁ .1 in
-    let e₃ = refuse-none (ltb left (w * h)) (eqb-false 14 0 refl) e₂ .1 in
-    let (most, e₄) = refuse-none (ltb (w * h) left) (eqb-false 15 0 refl) e₃ in
-    let (enough, e₅) = refuse-none (ltb room (w * h)) (eqb-false 5 0 refl) e₄ in
-    omega (arith, ltb-false (w * h) left most, ltb-false room (w * h) enough)
+raster-none w h greatest left room e =
+    let (grid, e₁) = refuse-none (not (gridFits w h)) 2 _ (omega arith) e in
+    let (white, e₂) = refuse-none (not (eqb greatest greatestGrey)) 12 _ (omega arith) e₁ in
+    let (enough, e₃) = refuse-none (ltb left (w * h)) 14 _ (omega arith) e₂ in
+    let (all, e₄) = refuse-none (ltb (w * h) left) 15 _ (omega arith) e₃ in
+    let (held, e₅) = refuse-none (ltb room (w * h)) 5 _ (omega arith) e₄ in
+    record {
+      sizes = not-false (gridFits w h) grid;
+      long = omega (arith, ltb-false left (w * h) enough, ltb-false (w * h) left all);
+      fits = ltb-false room (w * h) held;
+    }

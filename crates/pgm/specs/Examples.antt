@@ -6,7 +6,7 @@ use Prim.Native.String.{String}
 use lib.ListN.{length}
 use Rattle.meaning.specs.Answers.{outAfter}
 use Rattle.pgm.specs.Text.{bytes}
-use Rattle.pgm.specs.File.{readPgm, rasterOf, refused}
+use Rattle.pgm.specs.File.{readPgm, rasterOf, refusedRead}
 use Rattle.pgm.specs.declared.PgmRead.{PgmRead}
 
 -- the answer, and the output afterwards
@@ -35,7 +35,7 @@ expected c = record { answer = c .right; after = bytes (c .after) }
 
 -- a refusal leaves the output as it was
 abbrev refuses : ℕ → String → String → Case
-refuses n out file = record { file = file; out = out; right = refused n; after = out }
+refuses n out file = record { file = file; out = out; right = refusedRead n; after = out }
 
 abbrev reads : ℕ → ℕ → String → String → String → Case
 reads w h out file after = record { file = file; out = out; right = record { refusal = 0; width = w; height = h }; after = after }
@@ -138,7 +138,8 @@ cases =
     -- leading zeros; an output that is just long enough
     ∷ reads 1 1 "........." "P5 00001 00001 00255 a" "a........"
     ∷ reads 2 3 "------" "P5 2 3 255 abcdef" "abcdef"
-    -- files made by Netpbm: pgmmake 0.5 3 2; pgmramp -lr 4 3; pamtopnm of the small plate of SPECIFICATION 10; pgmmake -maxval=15 0.5 2 2; pbmmake -gray 4 2; two images
+    -- files made by Netpbm: pgmmake 0.5 3 2; pgmramp -lr 4 3; pamtopnm of the small plate of SPECIFICATION 10; pgmmake -maxval=15 0.5 2 2;
+    -- pbmmake -gray 4 2; two images
     ∷ reads 3 2 "............" "P5\n3 2\n255\n\u{80}\u{80}\u{80}\u{80}\u{80}\u{80}" "\u{80}\u{80}\u{80}\u{80}\u{80}\u{80}......"
     ∷ reads 4 3 "............" "P5\n4 3\n255\n\0Uªÿ\0Uªÿ\0Uªÿ" "\0Uªÿ\0Uªÿ\0Uªÿ"
     ∷ reads 4 3 "............" "P5\n4 3\n255\n\n\n\n\n\n2\u{1e}\n\n\n\nZ" "\n\n\n\n\n2\u{1e}\n\n\n\nZ"

@@ -31,18 +31,17 @@ fn print_header(refusal: u32, width: u32, height: u32, greatest: u32, raster: us
 
 fn header(line: &[u8], bytes: &[u8]) {
     let at = field(line, b"at") as usize;
-    let found = pgm::Cursor { at: at }.read_header(bytes);
+    let found = pgm_header::header_at(bytes, at);
     match found {
-        pgm::Header::Sound {
+        pgm_header::Header::Sound {
             width,
             height,
             greatest,
             raster,
         } => print_header(0, width, height, greatest, raster.at),
-        pgm::Header::Faulty(fault) => match fault {
-            pgm::Fault::Letters => print_header(10, 0, 0, 0, 0),
-            pgm::Fault::GapOrNumber => print_header(11, 0, 0, 0, 0),
-        },
+        pgm_header::Header::Faulty(fault) => {
+            print_header(pgm_header::fault_number(fault), 0, 0, 0, 0)
+        }
     }
 }
 

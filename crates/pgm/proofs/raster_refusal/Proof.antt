@@ -1,17 +1,34 @@
 -- The refusals after a sound header, in their order.
 use mathlib.Core.Path.{_≡_, sym, _∙_}
-use mathlib.Core.Bool.{true}
+use mathlib.Core.Bool.{true, false}
+use Prim.Native.Nat.{_*_}
 use native.Mathlib.Omega.{arith}
 use borrow.Author.Tests.{not-true, not-false, eq-eqb, ne-eqb, lt-ltb, le-ltb}
-use Rattle.meaning.specs.Plate.{gridFits}
+use lib.Dec.{eqb, ltb}
+use Rattle.meaning.specs.Plate.{gridFits, greatestGrey}
 use Rattle.pgm.specs.File.{rasterRefusal}
-use Rattle.pgm.proofs.Sizes.{pixels-most}
+use Rattle.theory_connectivity.proofs.Sizes.{grid-sizes}
 use Rattle.pgm.proofs.raster_refusal.Statement.{statement}
 use Rattle.pgm.proofs.raster_refusal.Tie as tie
 
--- past the first test the sizes are within the grid
-fits : (c : tie.Else1) → gridFits (c .before .before .args .width) (c .before .before .args .height) ≡ true
+-- ---- what holds past each test
+
+abbrev start : tie.Else1 → tie.Start
+start c = c .before .before
+
+fits : (c : tie.Else1) → gridFits (start c .args .width) (start c .args .height) ≡ true
 fits c = sym (c .before .grid-fits .ensures) ∙ not-false _ (c .if1 .left)
+
+white : (c : tie.Else2) → eqb (start (c .before) .args .greatest) greatestGrey ≡ true
+white c = eq-eqb _ _ (c .if2 .left)
+
+enough : (c : tie.Else3) → let a = start (c .before .before) .args in ltb (a .left) (a .width * a .height) ≡ false
+enough c = le-ltb _ _ (c .if3 .left)
+
+all : (c : tie.Else4) → let a = start (c .before .before .before) .args in ltb (a .width * a .height) (a .left) ≡ false
+all c = le-ltb _ _ (c .if4 .left)
+
+-- ---- the needs
 
 grid-fits-requires : tie.Need-grid-fits-requires
 grid-fits-requires c κs = tt
@@ -25,46 +42,30 @@ unfolding rasterRefusal
 returns-2 c = rw (fits (c .before), ne-eqb _ _ (c .if2 .taken))
 
 mul-pixels : tie.Need-mul-pixels
-mul-pixels c = omega (arith, pixels-most _ _ (fits (c .before)))
+mul-pixels c = omega (arith, grid-sizes _ _ (fits (c .before)) .few-pixels)
 
 cast-pixels : tie.Need-cast-pixels
-cast-pixels c = omega (arith, pixels-most _ _ (fits (c .before)))
+cast-pixels c = omega (arith, grid-sizes _ _ (fits (c .before)) .few-pixels)
 
 returns-3 : tie.Need-returns-3
 unfolding rasterRefusal
-returns-3 c = rw (fits (c .before .before), eq-eqb _ _ (c .before .if2 .left), lt-ltb _ _ (c .if3 .taken))
+returns-3 c = let d = c .before in rw (fits (d .before), white d, lt-ltb _ _ (c .if3 .taken))
 
 returns-4 : tie.Need-returns-4
 unfolding rasterRefusal
-returns-4 c =
-    rw (
-      fits (c .before .before .before),
-      eq-eqb _ _ (c .before .before .if2 .left),
-      le-ltb _ _ (c .before .if3 .left),
-      lt-ltb _ _ (c .if4 .taken),
-    )
+returns-4 c = let d = c .before in rw (fits (d .before .before), white (d .before), enough d, lt-ltb _ _ (c .if4 .taken))
 
 returns-5 : tie.Need-returns-5
 unfolding rasterRefusal
 returns-5 c =
-    rw (
-      fits (c .before .before .before .before),
-      eq-eqb _ _ (c .before .before .before .if2 .left),
-      le-ltb _ _ (c .before .before .if3 .left),
-      le-ltb _ _ (c .before .if4 .left),
-      lt-ltb _ _ (c .if5 .taken),
-    )
+    let d = c .before in
+    rw (fits (d .before .before .before), white (d .before .before), enough (d .before), all d, lt-ltb _ _ (c .if5 .taken))
 
 returns-6 : tie.Need-returns-6
 unfolding rasterRefusal
 returns-6 c =
-    rw (
-      fits (c .before .before .before .before),
-      eq-eqb _ _ (c .before .before .before .if2 .left),
-      le-ltb _ _ (c .before .before .if3 .left),
-      le-ltb _ _ (c .before .if4 .left),
-      le-ltb _ _ (c .if5 .left),
-    )
+    let d = c .before in
+    rw (fits (d .before .before .before), white (d .before .before), enough (d .before), all d, le-ltb _ _ (c .if5 .left))
 
 pub raster-refusal-spec : {M : Type 1} → statement M
 raster-refusal-spec =

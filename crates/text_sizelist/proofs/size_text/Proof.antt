@@ -7,8 +7,9 @@ use denote.Ref.{now}
 use lib.ListN.{length, replicate, take}
 use lib.Seq.{length-take-le}
 use Rattle.pgm.specs.File.{rasterOf}
+use Rattle.pgm.proofs.Sizes.{Sized}
 use Rattle.text_sizelist.specs.Text.{heldPixels, plateText}
-use Rattle.text_sizelist.proofs.Files.{Sized, made, raster-is, read-is, text-long, text-plate, text-refused}
+use Rattle.text_sizelist.proofs.Files.{made, raster-is, read-is, text-long, text-plate, text-refused}
 use Rattle.text_sizelist.proofs.size_text.Statement.{statement}
 use Rattle.text_sizelist.proofs.size_text.Tie as tie
 
@@ -34,7 +35,9 @@ returns-2 c =
     (text-refused (now (p .before .before .before .before .args .file)) (p .read-pgm .result) (p .before .before .if1 .left) (p .read-pgm .ensures .0) (c .before .before .if2 .taken))
 
 -- what was read, where nothing is refused
-read : (c : tie.Else2) → let p = c .before .before .before in Sized (p .read-pgm .result .width) (p .read-pgm .result .height) heldPixels (rasterOf (now (p .before .before .before .before .args .file)))
+read : (c : tie.Else2) → let p = c .before .before .before in
+    Sized (p .read-pgm .result .width) (p .read-pgm .result .height)
+    (length (rasterOf (now (p .before .before .before .before .args .file)))) heldPixels
 read c =
     let p = c .before .before .before in
     read-is (now (p .before .before .before .before .args .file)) (replicate heldPixels 0) (p .read-pgm .last .1 .0) (p .read-pgm .result) (p .read-pgm .ensures .0) (c .if2 .left)
