@@ -69,12 +69,14 @@ gate:
 check:
 	rt check
 
-# the second program's own tests; the cases of `vectors` and its answers to them are as stored
+# the second program's own tests; the cases of `vectors` and its answers are as stored, and so is what each other program prints
 reference:
 	cargo test $(SECOND) --quiet
 	cargo build $(SECOND) --release --quiet
 	reference/target/release/reference cases | cmp - crates/test_vectors/stdin
 	reference/target/release/reference vectors <crates/test_vectors/stdin | cmp - crates/test_vectors/stdout
+	reference/target/release/reference sizelist <crates/sizelist/stdin | cmp - crates/sizelist/stdout
+	reference/target/release/reference deep | cmp - crates/test_pgm_deep/stdout
 
 # what `make bench` compares with, on Debian; without them it leaves them out
 peers:

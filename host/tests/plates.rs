@@ -23,7 +23,7 @@ type Reference = fn(&[u8], u32, u32, u32, u32, &mut [u8], &mut [u32]) -> referen
 fn compare(seed: u64, proved: Proved, reference: Reference, refusals: &[u32]) {
     let (mut chance, mut seen) = (Chance::new(seed), Seen::default());
     for (case, side) in sides().enumerate() {
-        let plate = chance.ticket(side);
+        let plate = chance.job(side);
         let limit = chance.limit(plate.pixels());
         let mut out = chance.buffer(plate.pixels());
         let mut work = chance.buffer(8 * plate.pixels());
@@ -83,7 +83,7 @@ fn marking_maxima() {
 fn listing_nodes() {
     let (mut chance, mut seen) = (Chance::new(4), Seen::default());
     for (case, side) in sides().enumerate() {
-        let plate = chance.ticket(side);
+        let plate = chance.job(side);
         let nodes = count_nodes(&plate);
         let mut columns: [Vec<u32>; 4] = std::array::from_fn(|_| chance.buffer(nodes));
         let mut work = chance.buffer(8 * plate.pixels());
@@ -106,27 +106,28 @@ fn listing_nodes() {
     seen.assert_all(&[0, 1, 2, 3, 5, 6]);
 }
 
-/// The list of entries against the columns of the second program.
 #[test]
 fn listing_entries() {
     let (mut chance, mut seen) = (Chance::new(15), Seen::default());
     for (case, side) in sides().enumerate() {
-        let plate = chance.ticket(side);
+        let plate = chance.job(side);
         let places = chance.length_near(count_nodes(&plate));
         let mut list = vec![Node::default(); places];
         let mut work = chance.buffer(8 * plate.pixels());
-        let (mut columns, mut work2) = (std::array::from_fn(|_| vec![0; places]), work.clone());
+        let mut entries = vec![reference::NodeEntry::default(); places];
+        let mut work2 = work.clone();
+        let (w, h, c) = plate.numbers();
         let answer = lent::node_entries(plate.image(), &mut list, &mut work);
-        let wanted = reference_nodes(&plate, &mut columns, &mut work2);
+        let wanted = reference::node_entries(&plate.greys, w, h, c, &mut entries, &mut work2);
         assert_eq!(answer.refusal, wanted.refusal, "case {case}: {plate:?}");
         assert_eq!(answer.count, wanted.count, "case {case}: {plate:?}");
-        let entry = |i: usize| Node {
-            level: columns[0][i],
-            parent: columns[1][i],
-            area: columns[2][i],
-            anchor: columns[3][i],
+        let entry = |e: &reference::NodeEntry| Node {
+            level: e.level,
+            parent: e.parent,
+            area: e.area,
+            anchor: e.anchor,
         };
-        let entries: Vec<Node> = (0..places).map(entry).collect();
+        let entries: Vec<Node> = entries.iter().map(entry).collect();
         assert_eq!((list, work), (entries, work2), "case {case}: {plate:?}");
         seen.note(answer.refusal);
     }

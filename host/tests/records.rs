@@ -29,7 +29,7 @@ fn record_of(plate: &Plate) -> Vec<u8> {
 fn writing() {
     let (mut chance, mut seen) = (Chance::new(8), Seen::default());
     for case in 0..CASES {
-        let plate = chance.ticket(SIDE);
+        let plate = chance.job(SIDE);
         let mut out = chance.buffer(record_of(&plate).len());
         let mut work = chance.buffer(8 * plate.pixels());
         let (mut out2, mut work2) = (out.clone(), work.clone());
@@ -161,52 +161,29 @@ struct Buffers {
     work: Vec<u32>,
 }
 
-/// What they answer and leave, by the second program's functions one after another.
-fn one_after_another(plate: &Plate, limit: u32, lent: &mut Buffers) -> lent::JointHead {
-    let refused = |refusal| lent::JointHead {
-        refusal,
-        ..lent::JointHead::default()
-    };
-    let greys = &plate.greys;
+/// What they answer and leave, by the second program.
+fn at_once(plate: &Plate, limit: u32, lent: &mut Buffers) -> lent::JointHead {
     let (width, height, connectivity) = plate.numbers();
-    let (mut out, mut work) = (lent.out.clone(), lent.work.clone());
-    let opened = reference::area_open(
-        greys,
+    let outputs = reference::JointOutputs {
+        record: &mut lent.bytes,
+        out: &mut lent.out,
+        counts: &mut lent.counts,
+        losses: &mut lent.losses,
+    };
+    let head = reference::write_cut_list(
+        &plate.greys,
         width,
         height,
         connectivity,
         limit,
-        &mut out,
-        &mut work,
+        outputs,
+        &mut lent.work,
     );
-    if ![0, 6].contains(&opened.refusal) {
-        return refused(opened.refusal);
-    }
-    if lent.counts.len().min(lent.losses.len()) < plate.pixels() - 1 {
-        return refused(5);
-    }
-    if opened.refusal == 6 {
-        return refused(6);
-    }
-    let Buffers {
-        bytes,
-        out,
-        counts,
-        losses,
-        work,
-    } = lent;
-    let written = reference::write_record(greys, width, height, connectivity, bytes, work);
-    if written.refusal != 0 {
-        return refused(written.refusal);
-    }
-    let record = &bytes[..written.length];
-    reference::cut_record(record, limit, out, work);
-    let sizes = reference::size_list(record, counts, losses, work);
     lent::JointHead {
-        refusal: 0,
-        length: written.length,
-        nodes: sizes.nodes,
-        darkest: u32::from(sizes.darkest),
+        refusal: head.refusal,
+        length: head.length,
+        nodes: head.nodes,
+        darkest: u32::from(head.darkest),
     }
 }
 
@@ -214,7 +191,7 @@ fn one_after_another(plate: &Plate, limit: u32, lent: &mut Buffers) -> lent::Joi
 fn writing_cutting_and_listing_at_once() {
     let (mut chance, mut seen) = (Chance::new(13), Seen::default());
     for case in 0..CASES {
-        let plate = chance.ticket(SIDE);
+        let plate = chance.job(SIDE);
         let limit = chance.limit(plate.pixels());
         let places = plate.pixels().saturating_sub(1);
         let mut given = Buffers {
@@ -234,7 +211,7 @@ fn writing_cutting_and_listing_at_once() {
         let answer = lent::write_cut_list(plate.image(), limit, outputs, &mut given.work);
         assert_eq!(
             answer,
-            one_after_another(&plate, limit, &mut wanted),
+            at_once(&plate, limit, &mut wanted),
             "case {case}: {plate:?}"
         );
         assert_eq!(given, wanted, "case {case}: {plate:?}");

@@ -68,12 +68,12 @@ fn records_that_are_none() {
 fn record_cut_and_sizes_at_once() {
     let mut chance = Chance::new(15);
     for _ in 0..2_000 {
-        let ticket = chance.ticket(9);
-        let limit = chance.limit(ticket.pixels());
-        let Some(connectivity) = Connectivity::from_number(ticket.connectivity) else {
+        let job = chance.job(9);
+        let limit = chance.limit(job.pixels());
+        let Some(connectivity) = Connectivity::from_number(job.connectivity) else {
             continue;
         };
-        let plate = Plate::new(ticket.width, ticket.height, ticket.greys.clone());
+        let plate = Plate::new(job.width, job.height, job.greys.clone());
         let apart = || {
             let record = plate.record(connectivity)?;
             let (cut, sizes) = (record.cut(limit)?, record.sizes()?);

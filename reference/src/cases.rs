@@ -3,6 +3,8 @@
 
 mod damage;
 mod files;
+mod joint;
+mod netpbm;
 mod plates;
 
 use crate::case::Case;
@@ -15,8 +17,15 @@ pub fn cases_text() -> String {
     let mut cases = Vec::new();
     plates::cases(&mut cases);
     damage::cases(&mut cases);
+    joint::cases(&mut cases);
     files::cases(&mut cases);
+    netpbm::cases(&mut cases);
     cases.iter().map(Case::line).collect()
+}
+
+/// A case on a record, with work space.
+fn on_record(name: &'static str, record: &[u8], work: usize) -> Case<'static> {
+    Case::new(name).with("work", work).on(record)
 }
 
 /// A plate.
@@ -37,7 +46,7 @@ impl Plate {
         }
     }
 
-    /// 01's small plate.
+    /// The specification's small plate.
     fn small() -> Plate {
         let greys = [10, 10, 10, 10, 10, 50, 30, 10, 10, 10, 10, 90];
         Plate::new(4, 3, |p| greys[p as usize])
@@ -48,18 +57,21 @@ impl Plate {
         self.greys.len()
     }
 
-    /// A case on the plate with room for everything, and a little excess.
-    fn case(&self, name: &'static str, connectivity: u32, limit: u32) -> Case<'static> {
-        Case {
-            name,
-            width: self.width,
-            height: self.height,
-            connectivity,
-            limit,
-            places: self.pixels() + 1,
-            room: 8 * self.pixels() + 2,
-            bytes: self.greys.clone(),
-        }
+    /// A case on the plate with work space, and a little excess.
+    fn case(&self, name: &'static str, connectivity: u32) -> Case<'static> {
+        Case::new(name)
+            .with("width", self.width)
+            .with("height", self.height)
+            .with("connectivity", connectivity)
+            .with("work", 8 * self.pixels() + 2)
+            .on(&self.greys)
+    }
+
+    /// The same with a limit and an output.
+    fn cleaning(&self, name: &'static str, connectivity: u32, limit: u32) -> Case<'static> {
+        self.case(name, connectivity)
+            .with("limit", limit)
+            .with("out", self.pixels() + 1)
     }
 
     /// The plate's nodes, and its record.

@@ -1,20 +1,23 @@
-//! Livukoe's second program: every operation of paper 01, by brute force.
+//! Livukoe's second program: every operation of the specification, by brute
+//! force.
 //!
 //! Nothing here is clever on purpose. Sets of pixels are found by flood fill
-//! and kept as lists, and each answer is read off those lists as the paper
-//! words it. It serves only to be set against the proved program.
+//! and kept as lists, and each answer is read off those lists as the
+//! specification words it. It serves only to be set against the proved program.
 
 #![forbid(unsafe_code)]
 
 pub mod case;
 pub mod cases;
+pub mod cleaning;
+pub mod deep;
 pub mod grid;
 pub mod ink;
+pub mod joint;
 pub mod maxima;
 pub mod nodes;
 pub mod pgm;
 pub mod record;
-pub mod sieve;
 pub mod sizes;
 pub mod text;
 pub mod varint;
@@ -22,13 +25,15 @@ pub mod vectors;
 pub mod work;
 
 pub use cases::cases_text;
+pub use cleaning::{area_close, area_open, Cleaning};
+pub use deep::deep_text;
 pub use grid::{touching, Grid};
 pub use ink::ink_percentage;
+pub use joint::{write_cut_list, JointHead, JointOutputs};
 pub use maxima::regional_maxima;
-pub use nodes::{node_list, NodeColumns, NodeCount};
-pub use pgm::{read_pgm, PlateHead};
+pub use nodes::{node_at, node_entries, node_list, NodeColumns, NodeCount, NodeEntry};
+pub use pgm::{header_at, read_pgm, Header, PlateHead};
 pub use record::{cut_record, read_record, write_record, RecordHead, RecordLength};
-pub use sieve::{area_close, area_open};
 pub use sizes::{size_list, SizeHead};
 pub use text::sizelist_text;
 pub use vectors::vectors_text;

@@ -1,6 +1,7 @@
 //! `reference sizelist` prints sizelist's text for the plate file on standard
-//! input, `reference cases` the cases of the program `vectors`, and `reference
-//! vectors` what that program prints for the cases on standard input.
+//! input, `reference cases` the cases of the program `vectors`, `reference
+//! vectors` what that program prints for the cases on standard input, and
+//! `reference deep` what the program `test_pgm_deep` prints.
 
 use std::io::{self, Read, Write};
 use std::process::ExitCode;
@@ -10,11 +11,12 @@ fn main() -> ExitCode {
     let answered = match arguments.iter().map(String::as_str).collect::<Vec<_>>()[..] {
         ["sizelist"] => input().map(|bytes| reference::sizelist_text(&bytes)),
         ["cases"] => Ok(reference::cases_text()),
+        ["deep"] => Ok(reference::deep_text()),
         ["vectors"] => {
             input().map(|bytes| reference::vectors_text(&String::from_utf8_lossy(&bytes)))
         }
         _ => {
-            eprintln!("usage: reference sizelist < plate.pgm | reference cases | reference vectors < cases");
+            eprintln!("usage: reference sizelist < plate.pgm | vectors < cases | cases | deep");
             return ExitCode::from(2);
         }
     };

@@ -5,7 +5,7 @@ use std::collections::BTreeSet;
 use crate::grid::{check_plate, thresholds, Grid};
 use crate::work::{check_work, zero_work};
 
-/// A node: its set of pixels (numbers rising) and what the paper names of it.
+/// A node: its set of pixels (numbers rising) and what the specification names of it.
 #[derive(Clone, Debug, PartialEq, Eq)]
 pub struct Node {
     pub pixels: Vec<usize>,
@@ -31,6 +31,32 @@ pub struct NodeCount {
     pub count: u32,
 }
 
+/// One node of the list of entries.
+#[derive(Clone, Copy, Debug, Default, PartialEq, Eq)]
+pub struct NodeEntry {
+    pub level: u32,
+    pub parent: u32,
+    pub area: u32,
+    pub anchor: u32,
+}
+
+impl NodeEntry {
+    /// An entry of these numbers: level, parent, area, anchor.
+    pub fn of([level, parent, area, anchor]: [u32; 4]) -> NodeEntry {
+        NodeEntry {
+            level,
+            parent,
+            area,
+            anchor,
+        }
+    }
+
+    /// Level, parent, area, anchor.
+    pub fn numbers(&self) -> [u32; 4] {
+        [self.level, self.parent, self.area, self.anchor]
+    }
+}
+
 /// Lists the nodes as columns. The root's parent is given as 0.
 pub fn node_list(
     plate: &[u8],
@@ -40,33 +66,76 @@ pub fn node_list(
     columns: NodeColumns,
     work: &mut [u32],
 ) -> NodeCount {
-    match list_nodes(plate, (width, height, connectivity), columns, work) {
-        Ok(count) => NodeCount { refusal: 0, count },
-        Err(refusal) => NodeCount { refusal, count: 0 },
-    }
+    let shape = (width, height, connectivity);
+    let listed = listed_nodes(plate, shape, columns.places(), work);
+    NodeCount::of(listed.map(|nodes| {
+        for (i, node) in nodes.iter().enumerate() {
+            columns.levels[i] = node.level;
+            columns.parents[i] = node.parent as u32;
+            columns.areas[i] = node.area as u32;
+            columns.anchors[i] = node.anchor as u32;
+        }
+        nodes.len()
+    }))
 }
 
-/// The node list with its conditions: 1, 2, 3, 6, 5.
-fn list_nodes(
+/// Lists the nodes as entries of one list.
+pub fn node_entries(
+    plate: &[u8],
+    width: u32,
+    height: u32,
+    connectivity: u32,
+    list: &mut [NodeEntry],
+    work: &mut [u32],
+) -> NodeCount {
+    let shape = (width, height, connectivity);
+    let listed = listed_nodes(plate, shape, list.len(), work);
+    NodeCount::of(listed.map(|nodes| {
+        for (entry, node) in list.iter_mut().zip(&nodes) {
+            *entry = NodeEntry {
+                level: node.level.into(),
+                parent: node.parent as u32,
+                area: node.area as u32,
+                anchor: node.anchor as u32,
+            };
+        }
+        nodes.len()
+    }))
+}
+
+/// The entry at a place of the list; all zeros beyond its end.
+pub fn node_at(list: &[NodeEntry], at: usize) -> NodeEntry {
+    list.get(at).copied().unwrap_or_default()
+}
+
+/// The nodes for a list of so many places, with the conditions: 1, 2, 3, 6, 5.
+fn listed_nodes(
     plate: &[u8],
     (width, height, connectivity): (u32, u32, u32),
-    columns: NodeColumns,
+    places: usize,
     work: &mut [u32],
-) -> Result<u32, u32> {
+) -> Result<Vec<Node>, u32> {
     let grid = check_plate(plate, width, height, connectivity)?;
     check_work(work, grid.pixels())?;
     zero_work(work, grid.pixels());
     let nodes = nodes_of(&grid, plate);
-    if nodes.len() > columns.places() {
+    if nodes.len() > places {
         return Err(5);
     }
-    for (i, node) in nodes.iter().enumerate() {
-        columns.levels[i] = node.level;
-        columns.parents[i] = node.parent as u32;
-        columns.areas[i] = node.area as u32;
-        columns.anchors[i] = node.anchor as u32;
+    Ok(nodes)
+}
+
+impl NodeCount {
+    /// The answer: the number of nodes, or the refusal.
+    fn of(listed: Result<usize, u32>) -> NodeCount {
+        match listed {
+            Ok(count) => NodeCount {
+                refusal: 0,
+                count: count as u32,
+            },
+            Err(refusal) => NodeCount { refusal, count: 0 },
+        }
     }
-    Ok(nodes.len() as u32)
 }
 
 impl NodeColumns<'_> {

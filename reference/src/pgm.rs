@@ -27,12 +27,11 @@ pub fn read_pgm(file: &[u8], out: &mut [u8]) -> PlateHead {
 
 /// Reading with its conditions: 10, 11, 2, 12, 14, 15, 5.
 fn read_checked(file: &[u8], out: &mut [u8]) -> Result<(u32, u32), u32> {
-    let behind_letters = file.strip_prefix(b"P5").ok_or(10u32)?;
-    let ((width, height, third), raster) = take_numbers(behind_letters).ok_or(11u32)?;
+    let ((width, height, greatest), raster) = take_header(file)?;
     if !is_size(width, height) {
         return Err(2);
     }
-    if third != 255 {
+    if greatest != 255 {
         return Err(12);
     }
     let pixels = (width * height) as usize;
@@ -49,17 +48,53 @@ fn read_checked(file: &[u8], out: &mut [u8]) -> Result<(u32, u32), u32> {
     Ok((width, height))
 }
 
+/// The answer of reading a header: its three numbers, and where the byte
+/// after its last blank stands in the file.
+#[derive(Clone, Copy, Debug, Default, PartialEq, Eq)]
+pub struct Header {
+    pub refusal: u32,
+    pub width: u32,
+    pub height: u32,
+    pub greatest: u32,
+    pub raster: usize,
+}
+
+/// Reads the header that begins at a place of a file: 10, 11. At the file's
+/// end and beyond it there is none.
+pub fn header_at(file: &[u8], at: usize) -> Header {
+    match take_header(file.get(at..).unwrap_or(&[])) {
+        Ok(((width, height, greatest), raster)) => Header {
+            refusal: 0,
+            width,
+            height,
+            greatest,
+            raster: file.len() - raster.len(),
+        },
+        Err(refusal) => Header {
+            refusal,
+            ..Header::default()
+        },
+    }
+}
+
 /// The header's three numbers.
 type Numbers = (u32, u32, u32);
+
+/// Takes a header off the front, or 10, or 11; also hands back the bytes
+/// after it.
+fn take_header(bytes: &[u8]) -> Result<(Numbers, &[u8]), u32> {
+    let bytes = bytes.strip_prefix(b"P5").ok_or(10u32)?;
+    take_numbers(bytes).ok_or(11)
+}
 
 /// Takes gap, width, gap, height, gap, third number and one blank off the
 /// front; also hands back the bytes after them.
 fn take_numbers(bytes: &[u8]) -> Option<(Numbers, &[u8])> {
     let (width, bytes) = take_number(skip_gap(bytes)?)?;
     let (height, bytes) = take_number(skip_gap(bytes)?)?;
-    let (third, bytes) = take_number(skip_gap(bytes)?)?;
+    let (greatest, bytes) = take_number(skip_gap(bytes)?)?;
     let (blank, raster) = bytes.split_first()?;
-    is_blank(*blank).then_some(((width, height, third), raster))
+    is_blank(*blank).then_some(((width, height, greatest), raster))
 }
 
 /// A space, tab, CR or LF.

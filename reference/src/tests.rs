@@ -1,4 +1,4 @@
-//! Tests on the paper's examples, its refusals and its properties.
+//! Tests on the specification's examples, its refusals and its properties.
 
 mod cases;
 mod examples;

@@ -1,7 +1,24 @@
 //! Cases run one by one, a line for each: what the program `vectors` prints.
+//! It is the operation's name, its answer and, after a bar each, every lent
+//! buffer as it was left, spelled as `case.rs` says.
 //!
-//! `case.rs` says how a case is spelled. An output holds 170 before, a table
-//! or a column 9, the work space 7.
+//! The fields of a plate are `width`, `height`, `connectivity` and `bytes`, its
+//! greys. A record or a file is `bytes`. The fields of a lent buffer are its
+//! places. An output holds 170 before, a table, a column or an entry 9, the
+//! work space 7.
+//!
+//! - `open`, `close`: a plate, `limit`, `out`, `work`
+//! - `maxima`, `write`: a plate, `out`, `work`
+//! - `nodes`: a plate, `levels`, `parents`, `areas`, `anchors`, `work`
+//! - `entries`: a plate, `at` (the entry that is read), `work`; six entries are lent
+//! - `joint`: a plate, `limit`, `record`, `out`, `counts`, `losses`, `work`
+//! - `read`: a record, `out`, `work`
+//! - `cut`: a record, `limit`, `out`, `work`
+//! - `sizes`: a record, `counts`, `losses`, `work`
+//! - `file`: a file, `out`
+//! - `header`: a file, `at` (where the header begins)
+//! - `text`: a file; what sizelist prints
+//! - `ink`: greys
 
 use std::fmt::Display;
 
@@ -15,14 +32,19 @@ pub fn vectors_text(input: &str) -> String {
 
 /// The line of a case.
 fn answer(case: &Case) -> String {
-    let mut out = vec![170u8; case.places];
-    let mut work = vec![7u32; case.room];
     let said = match case.name {
-        "open" | "close" | "maxima" | "write" => on_plate(case, &mut out, &mut work),
-        "read" | "cut" => on_record(case, &mut out, &mut work),
-        "nodes" => nodes(case, &mut work),
-        "sizes" => sizes(case, &mut work),
-        "file" => file(case, &mut out),
+        "open" => cleaned(case, area_open),
+        "close" => cleaned(case, area_close),
+        "maxima" => maxima(case),
+        "write" => write(case),
+        "nodes" => nodes(case),
+        "entries" => entries(case),
+        "joint" => joint(case),
+        "read" => read(case),
+        "cut" => cut(case),
+        "sizes" => sizes(case),
+        "file" => file(case),
+        "header" => header(case),
         "text" => text(case),
         "ink" => inks(case),
         other => panic!("no operation is called {other}"),
@@ -35,28 +57,100 @@ fn barred<T: Display + PartialEq + Copy>(buffer: &[T]) -> String {
     format!(" |{}", listed(buffer.iter().copied()))
 }
 
-/// The four operations on a plate with one output.
-fn on_plate(case: &Case, out: &mut [u8], work: &mut [u32]) -> String {
-    let plate = case.bytes.as_slice();
-    let (w, h, k, limit) = (case.width, case.height, case.connectivity, case.limit);
-    let said = match case.name {
-        "open" => format!(" {}", area_open(plate, w, h, k, limit, out, work).refusal),
-        "close" => format!(" {}", area_close(plate, w, h, k, limit, out, work).refusal),
-        "maxima" => format!(" {}", regional_maxima(plate, w, h, k, out, work).refusal),
-        _ => {
-            let written = write_record(plate, w, h, k, out, work);
-            format!(" {} {}", written.refusal, written.length)
-        }
-    };
-    said + &barred(out) + &barred(work)
+/// Width, height and connectivity.
+fn shape(case: &Case) -> (u32, u32, u32) {
+    let connectivity = case.number("connectivity");
+    (case.number("width"), case.number("height"), connectivity)
 }
 
-/// Reading a record, or cutting it.
-fn on_record(case: &Case, out: &mut [u8], work: &mut [u32]) -> String {
-    let head = match case.name {
-        "read" => read_record(&case.bytes, out, work),
-        _ => cut_record(&case.bytes, case.limit, out, work),
+/// The output and the work space.
+fn buffers(case: &Case) -> (Vec<u8>, Vec<u32>) {
+    (case.lent("out", 170), case.lent("work", 7))
+}
+
+/// Opening or closing.
+fn cleaned(case: &Case, clean: Cleaning) -> String {
+    let (w, h, k) = shape(case);
+    let (mut out, mut work) = buffers(case);
+    let limit = case.number("limit");
+    let done = clean(&case.bytes(), w, h, k, limit, &mut out, &mut work);
+    format!(" {}", done.refusal) + &barred(&out) + &barred(&work)
+}
+
+/// Marking maxima.
+fn maxima(case: &Case) -> String {
+    let (w, h, k) = shape(case);
+    let (mut out, mut work) = buffers(case);
+    let done = regional_maxima(&case.bytes(), w, h, k, &mut out, &mut work);
+    format!(" {}", done.refusal) + &barred(&out) + &barred(&work)
+}
+
+/// Writing a record.
+fn write(case: &Case) -> String {
+    let (w, h, k) = shape(case);
+    let (mut out, mut work) = buffers(case);
+    let written = write_record(&case.bytes(), w, h, k, &mut out, &mut work);
+    let said = format!(" {} {}", written.refusal, written.length);
+    said + &barred(&out) + &barred(&work)
+}
+
+/// The node list.
+fn nodes(case: &Case) -> String {
+    let (w, h, k) = shape(case);
+    let mut levels = case.lent("levels", 9u8);
+    let mut parents = case.lent("parents", 9);
+    let mut areas = case.lent("areas", 9);
+    let mut anchors = case.lent("anchors", 9);
+    let mut work = case.lent("work", 7);
+    let columns = NodeColumns {
+        levels: &mut levels,
+        parents: &mut parents,
+        areas: &mut areas,
+        anchors: &mut anchors,
     };
+    let list = node_list(&case.bytes(), w, h, k, columns, &mut work);
+    let said = format!(" {} {}", list.refusal, list.count);
+    let columns = barred(&levels) + &barred(&parents) + &barred(&areas) + &barred(&anchors);
+    said + &columns + &barred(&work)
+}
+
+/// The node list as entries, and the entry at a place.
+fn entries(case: &Case) -> String {
+    let (w, h, k) = shape(case);
+    let mut list = [NodeEntry::of([9; 4]); 6];
+    let mut work = case.lent("work", 7);
+    let answer = node_entries(&case.bytes(), w, h, k, &mut list, &mut work);
+    let read = node_at(&list, case.number("at") as usize);
+    let said = format!(" {} {}", answer.refusal, answer.count);
+    let list: String = list.iter().map(|entry| barred(&entry.numbers())).collect();
+    said + &list + &barred(&read.numbers()) + &barred(&work)
+}
+
+/// Writing a record, cutting it and listing its sizes by one call.
+fn joint(case: &Case) -> String {
+    let (w, h, k) = shape(case);
+    let mut record = case.lent("record", 170u8);
+    let (mut out, mut work) = buffers(case);
+    let mut counts = case.lent("counts", 9);
+    let mut losses = case.lent("losses", 9);
+    let outputs = JointOutputs {
+        record: &mut record,
+        out: &mut out,
+        counts: &mut counts,
+        losses: &mut losses,
+    };
+    let limit = case.number("limit");
+    let head = write_cut_list(&case.bytes(), w, h, k, limit, outputs, &mut work);
+    let said = format!(
+        " {} {} {} {}",
+        head.refusal, head.length, head.nodes, head.darkest
+    );
+    let tables = barred(&counts) + &barred(&losses);
+    said + &barred(&record) + &barred(&out) + &tables + &barred(&work)
+}
+
+/// The answer of reading or cutting, and what it left.
+fn on_record(head: RecordHead, out: &[u8], work: &[u32]) -> String {
     let said = format!(
         " {} {} {} {}",
         head.refusal, head.width, head.height, head.connectivity
@@ -64,55 +158,60 @@ fn on_record(case: &Case, out: &mut [u8], work: &mut [u32]) -> String {
     said + &barred(out) + &barred(work)
 }
 
-/// The node list; the column that the limit numbers is lent a place short.
-fn nodes(case: &Case, work: &mut [u32]) -> String {
-    let places = |column: u32| {
-        let short = usize::from(case.limit == column);
-        case.places.saturating_sub(short)
-    };
-    let mut levels = vec![9u8; places(1)];
-    let mut parents = vec![9u32; places(2)];
-    let mut areas = vec![9u32; places(3)];
-    let mut anchors = vec![9u32; places(4)];
-    let columns = NodeColumns {
-        levels: &mut levels,
-        parents: &mut parents,
-        areas: &mut areas,
-        anchors: &mut anchors,
-    };
-    let (w, h, k) = (case.width, case.height, case.connectivity);
-    let list = node_list(&case.bytes, w, h, k, columns, work);
-    let said = format!(" {} {}", list.refusal, list.count);
-    let columns = barred(&levels) + &barred(&parents) + &barred(&areas) + &barred(&anchors);
-    said + &columns + &barred(work)
+/// Reading a record.
+fn read(case: &Case) -> String {
+    let (mut out, mut work) = buffers(case);
+    let head = read_record(&case.bytes(), &mut out, &mut work);
+    on_record(head, &out, &work)
 }
 
-/// The size list; the limit is the number of places of the second table.
-fn sizes(case: &Case, work: &mut [u32]) -> String {
-    let mut counts = vec![9u32; case.places];
-    let mut losses = vec![9u64; case.limit as usize];
-    let head = size_list(&case.bytes, &mut counts, &mut losses, work);
+/// Cutting a record.
+fn cut(case: &Case) -> String {
+    let (mut out, mut work) = buffers(case);
+    let limit = case.number("limit");
+    let head = cut_record(&case.bytes(), limit, &mut out, &mut work);
+    on_record(head, &out, &work)
+}
+
+/// The size list.
+fn sizes(case: &Case) -> String {
+    let mut counts = case.lent("counts", 9);
+    let mut losses = case.lent("losses", 9);
+    let mut work = case.lent("work", 7);
+    let head = size_list(&case.bytes(), &mut counts, &mut losses, &mut work);
     let said = format!(
         " {} {} {} {} {} {}",
         head.refusal, head.width, head.height, head.connectivity, head.nodes, head.darkest
     );
-    said + &barred(&counts) + &barred(&losses) + &barred(work)
+    said + &barred(&counts) + &barred(&losses) + &barred(&work)
 }
 
 /// Reading a plate file.
-fn file(case: &Case, out: &mut [u8]) -> String {
-    let head = read_pgm(&case.bytes, out);
-    format!(" {} {} {}", head.refusal, head.width, head.height) + &barred(out)
+fn file(case: &Case) -> String {
+    let mut out = case.lent("out", 170);
+    let head = read_pgm(&case.bytes(), &mut out);
+    format!(" {} {} {}", head.refusal, head.width, head.height) + &barred(&out)
+}
+
+/// Reading the header that begins at a place.
+fn header(case: &Case) -> String {
+    let head = header_at(&case.bytes(), case.number("at") as usize);
+    format!(
+        " {} {} {} {} {}",
+        head.refusal, head.width, head.height, head.greatest, head.raster
+    )
 }
 
 /// What sizelist prints.
 fn text(case: &Case) -> String {
-    let text = sizelist_text(&case.bytes);
+    let text = sizelist_text(&case.bytes());
     format!(" {}", text.len()) + &barred(text.as_bytes())
 }
 
 /// The ink percentage of each grey.
 fn inks(case: &Case) -> String {
-    let percentages = case.bytes.iter().map(|&grey| ink_percentage(grey));
-    percentages.map(|number| format!(" {number}")).collect()
+    let greys = case.bytes().into_iter();
+    greys
+        .map(|grey| format!(" {}", ink_percentage(grey)))
+        .collect()
 }

@@ -1,4 +1,4 @@
-//! The lent work space. Brute force does not need it; only what the paper
+//! The lent work space. Brute force does not need it; only what the specification
 //! says of its contents is kept.
 
 /// The entries of work space asked for each pixel.

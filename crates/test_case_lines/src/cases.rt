@@ -1,18 +1,8 @@
-// A case: a line taken apart.
+// A case of the program `vectors`: a line taken apart. It is the operation's name and then fields, each a word and the numbers up to the next
+// word, in decimal and parted by one space; `v*n` stands for n numbers v.
 ghost use Prim.Native.Nat.{_≤_};
 ghost use lib.ListN.{length};
 ghost use Rattle.test_case_lines.specs.Places.{Behind};
-
-// The numbers of a case, and where its bytes begin.
-pub struct Case {
-    pub width: u32,
-    pub height: u32,
-    pub connectivity: u32,
-    pub limit: u32,
-    pub places: u32,
-    pub room: u32,
-    pub at: usize,
-}
 
 // A number, whether a star follows it, and the place after the byte that follows.
 struct Number {
@@ -105,13 +95,89 @@ fn put_run(bytes: &mut [u8], from: usize, value: u8, count: u32) -> usize
     i
 }
 
-// Puts the bytes of a case, and gives their number.
-pub fn read_bytes(line: &[u8], from: usize, bytes: &mut [u8]) -> usize
+// The place after the word at `at` and the byte that follows, where that word is `name`, whole; else 0.
+fn word_end(line: &[u8], at: usize, name: &[u8]) -> usize {
+    let mut k = at;
+    let mut i: usize = 0;
+    while i < name.len() {
+        if line.len() <= k {
+            return 0;
+        }
+        if line[k] != name[i] {
+            return 0;
+        }
+        k += 1;
+        i += 1;
+    }
+    if line.len() <= k {
+        return k;
+    }
+    if line[k] == b' ' { k + 1 } else { 0 }
+}
+
+// Whether the operation's name is `name`.
+pub fn is_named(line: &[u8], name: &[u8]) -> bool {
+    word_end(line, 0, name) != 0
+}
+
+// Where the numbers of the field `name` begin; the line's length where it is absent.
+fn field_at(line: &[u8], name: &[u8]) -> usize {
+    let mut i: usize = 0;
+    while i < line.len() {
+        let b = line[i];
+        i += 1;
+        if b == b' ' {
+            let end = word_end(line, i, name);
+            if end != 0 {
+                return end;
+            }
+        }
+    }
+    i
+}
+
+// The number of the field `name`; 0 where it is absent.
+pub fn field(line: &[u8], name: &[u8]) -> u32 {
+    let number = number_at(line, field_at(line, name));
+    number.value
+}
+
+// Width, height and connectivity of a plate.
+pub struct Shape {
+    pub width: u32,
+    pub height: u32,
+    pub connectivity: u32,
+}
+
+pub fn shape_of(line: &[u8]) -> Shape {
+    let width = field(line, b"width");
+    let height = field(line, b"height");
+    let connectivity = field(line, b"connectivity");
+    Shape {
+        width: width,
+        height: height,
+        connectivity: connectivity,
+    }
+}
+
+// As many places as the field `name` says, at most `most`.
+pub fn places(line: &[u8], name: &[u8], most: usize) -> usize
+    ensures { λ r. ⌜ r ≤ most ⌝ }
+{
+    let wanted = field(line, name) as usize;
+    if most < wanted { most } else { wanted }
+}
+
+// Puts the bytes of the field `name`, and gives their number.
+pub fn list(line: &[u8], name: &[u8], bytes: &mut [u8]) -> usize
     ensures { λ r. ⌜ r ≤ length (now (bytes .entry)) ⌝ }
 {
     let mut n: usize = 0;
-    let mut at = from;
+    let mut at = field_at(line, name);
     while at < line.len() {
+        if digit(line[at]) == 10 {
+            return n;
+        }
         let run = run_at(line, at);
         n = put_run(bytes, n, run.value, run.count);
         at = run.next;
@@ -131,24 +197,4 @@ pub fn name_end(line: &[u8]) -> usize
         i += 1;
     }
     i
-}
-
-// The numbers of a case; the space in front of them is at `at`.
-pub fn read_case(line: &[u8], at: usize) -> Case {
-    let space = number_at(line, at);
-    let width = number_at(line, space.next);
-    let height = number_at(line, width.next);
-    let connectivity = number_at(line, height.next);
-    let limit = number_at(line, connectivity.next);
-    let places = number_at(line, limit.next);
-    let room = number_at(line, places.next);
-    Case {
-        width: width.value,
-        height: height.value,
-        connectivity: connectivity.value,
-        limit: limit.value,
-        places: places.value,
-        room: room.value,
-        at: room.next,
-    }
 }

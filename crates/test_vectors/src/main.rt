@@ -1,68 +1,67 @@
-// Runs the cases on standard input and prints a line for each. A case is a line: the operation, six numbers (width, height, connectivity,
-// limit, places of the output, places of the work space) and the bytes of the plate, the record or the file, all in decimal and parted by one
-// space; `v*n` stands for n bytes v. It prints the operation and then, after a bar each, the answer and every lent buffer as it was left, in the
-// same notation. An output holds 170 before, a table or a column 9, the work space 7.
+// Runs the cases on standard input and prints a line for each: the operation's name, its answer and, after a bar each, every lent buffer as it was
+// left. A case is a line: the operation's name and then fields, each a word and the numbers up to the next word, in decimal and parted by one space;
+// `v*n` stands for n numbers v. A number that is absent is 0. The fields of a plate are `width`, `height`, `connectivity` and `bytes`, its greys; a
+// record or a file is `bytes`. The fields of a lent buffer are its places. An output holds 170 before, a table, a column or an entry 9, the work
+// space 7.
 //
-//     open, close, maxima, nodes, write    a plate. Column `limit` of the four of `nodes` is lent a place short
-//     read, cut, sizes                     a record. The second table of `sizes` has `limit` places
-//     file, text                           a plate file; `text` is what sizelist prints
-//     ink                                  greys
+//     open, close        a plate, limit, out, work
+//     maxima, write      a plate, out, work
+//     nodes              a plate, levels, parents, areas, anchors, work
+//     entries            a plate, at (the entry that is read), work; six entries are lent
+//     joint              a plate, limit, record, out, counts, losses, work
+//     read               a record, out, work
+//     cut                a record, limit, out, work
+//     sizes              a record, counts, losses, work
+//     file               a file, out
+//     header             a file, at (where the header begins)
+//     text               a file: what sizelist prints
+//     ink                greys
 ghost use Prim.Native.Nat.{_≤_};
 ghost use lib.ListN.{length};
 use libc::STDIN_FILENO;
 use libc::STDOUT_FILENO;
 use test_case_lines::cases;
-use test_case_lines::cases::Case;
+use test_case_runs::files;
+use test_case_runs::outputs;
+use test_case_runs::tables;
 
-// Runs the operation that the name's first letter says. Of the two that begin with c, `cut` has three letters.
-fn run(letter: u8, letters: usize, c: Case, bytes: &[u8], out: &mut [u8], work: &mut [u32]) {
-    match letter {
-        b'o' => test_case_runs::open(c, bytes, out, work),
-        b'm' => test_case_runs::maxima(c, bytes, out, work),
-        b'n' => test_case_runs::nodes(c, bytes, work),
-        b'w' => test_case_runs::write(c, bytes, out, work),
-        b'r' => test_case_runs::read(bytes, out, work),
-        b's' => test_case_runs::sizes(c, bytes, work),
-        b'f' => test_case_runs::file(bytes, out),
-        b't' => test_case_runs::text(bytes),
-        b'i' => test_case_runs::ink(bytes),
-        _ => {
-            if letters == 3 {
-                test_case_runs::cut(c, bytes, out, work)
-            } else {
-                test_case_runs::close(c, bytes, out, work)
-            }
-        }
+fn run(line: &[u8], bytes: &[u8], work: &mut [u32]) {
+    if files::run(line, bytes) {
+        return;
     }
+    if tables::run(line, bytes, work) {
+        return;
+    }
+    outputs::run(line, bytes, work);
 }
 
-// The output and the work space are lent with as many places as the case says.
-fn lend(letter: u8, letters: usize, c: Case, bytes: &[u8], out: &mut [u8], work: &mut [u32]) {
-    let places = test_case_runs::lesser(c.places as usize, out.len());
-    let room = test_case_runs::lesser(c.room as usize, work.len());
-    run(
-        letter,
-        letters,
-        c,
-        bytes,
-        &mut out[..places],
-        &mut work[..room],
-    );
+// The work space is lent with as many places as the case says.
+fn lend_work(line: &[u8], bytes: &[u8], work: &mut [u32]) {
+    let n = cases::places(line, b"work", work.len());
+    run(line, bytes, &mut work[..n]);
+}
+
+// The array goes by reference, not as a slice, so that no proof computes its elements.
+fn whole_work(line: &[u8], bytes: &[u8], work: &mut [u32; 528100]) {
+    lend_work(line, bytes, work);
+}
+
+fn run_bytes(line: &[u8], bytes: &[u8]) {
+    let mut work = [7u32; 528100];
+    whole_work(line, bytes, &mut work);
+}
+
+fn print_name(line: &[u8]) {
+    let end = cases::name_end(line);
+    io::write_all(STDOUT_FILENO, &line[..end]);
 }
 
 // Runs the case of a line and prints its line.
 fn run_line(line: &[u8]) {
-    if line.len() == 0 {
-        return;
-    }
-    let letters = cases::name_end(line);
-    io::write_all(STDOUT_FILENO, &line[..letters]);
-    let c = cases::read_case(line, letters);
+    print_name(line);
     let mut bytes = [0u8; 66000];
-    let n = cases::read_bytes(line, c.at, &mut bytes);
-    let mut out = [170u8; 66000];
-    let mut work = [7u32; 528100];
-    lend(line[0], letters, c, &bytes[..n], &mut out, &mut work);
+    let n = cases::list(line, b"bytes", &mut bytes);
+    run_bytes(line, &bytes[..n]);
     io::write_all(STDOUT_FILENO, b"\n");
 }
 
@@ -93,8 +92,17 @@ fn run_lines(file: &[u8]) {
     }
 }
 
-fn main() {
-    let mut file = [0u8; 524288];
-    let n = io::read_full(STDIN_FILENO, &mut file);
+fn run_input(file: &mut [u8]) {
+    let n = io::read_full(STDIN_FILENO, file);
     run_lines(&file[..n]);
+}
+
+// The array goes by reference, as above.
+fn whole_file(file: &mut [u8; 1048576]) {
+    run_input(file);
+}
+
+fn main() {
+    let mut file = [0u8; 1048576];
+    whole_file(&mut file);
 }

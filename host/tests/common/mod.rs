@@ -70,7 +70,7 @@ impl Chance {
     }
 
     /// A small plate whose numbers are sometimes wrong.
-    pub fn ticket(&mut self, side: usize) -> Plate {
+    pub fn job(&mut self, side: usize) -> Plate {
         let mut plate = self.plate(side);
         if self.one_in(12) {
             plate.connectivity = self.pick(&[0, 1, 3, 5, 6, 7, 9, 260, u32::MAX]);

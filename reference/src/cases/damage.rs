@@ -1,7 +1,7 @@
 //! Damaged records: cut short, lengthened, changed byte by byte, with fields
 //! out of form and out of range, with too little work space.
 
-use super::{Case, Plate};
+use super::{on_record, Case, Plate};
 
 /// All of them.
 pub fn cases(cases: &mut Vec<Case>) {
@@ -19,18 +19,34 @@ pub fn cases(cases: &mut Vec<Case>) {
 
 /// The record read, cut and listed, with room for 12 pixels.
 fn all(record: &[u8], cases: &mut Vec<Case>) {
-    cases.push(Case::on_bytes("read", 13, 97, record));
-    let mut cut = Case::on_bytes("cut", 12, 96, record);
-    cut.limit = 2;
-    cases.push(cut);
-    let mut sizes = Case::on_bytes("sizes", 11, 98, record);
-    sizes.limit = 12;
-    cases.push(sizes);
+    cases.push(on_record("read", record, 97).with("out", 13));
+    cases.push(
+        on_record("cut", record, 96)
+            .with("limit", 2)
+            .with("out", 12),
+    );
+    let sizes = on_record("sizes", record, 98);
+    cases.push(sizes.with("counts", 11).with("losses", 12));
 }
 
 /// The record read alone.
 fn read(record: &[u8], cases: &mut Vec<Case>) {
-    cases.push(Case::on_bytes("read", 12, 97, record));
+    cases.push(on_record("read", record, 97).with("out", 12));
+}
+
+/// The record read, cut or listed with so many places for anything.
+fn with_places(
+    name: &'static str,
+    record: &[u8],
+    places: usize,
+    work: usize,
+    cases: &mut Vec<Case>,
+) {
+    let case = on_record(name, record, work);
+    cases.push(match name {
+        "sizes" => case.with("counts", places).with("losses", places),
+        _ => case.with("out", places),
+    });
 }
 
 /// Every truncation, and bytes after the end.
@@ -124,14 +140,14 @@ fn ranged(record: &[u8], cases: &mut Vec<Case>) {
 /// Little work space: 6 stands after the node count and ahead of the rest.
 fn spaced(record: &[u8], cases: &mut Vec<Case>) {
     for length in 0..8 {
-        for room in [0, 95] {
-            cases.push(Case::on_bytes("read", 12, room, &record[..length]));
+        for work in [0, 95] {
+            with_places("read", &record[..length], 12, work, cases);
         }
     }
     for name in ["read", "cut", "sizes"] {
-        for room in [0, 1, 95, 96] {
-            cases.push(Case::on_bytes(name, 0, room, record));
-            cases.push(Case::on_bytes(name, 12, room, &[record, &[0]].concat()));
+        for work in [0, 1, 95, 96] {
+            with_places(name, record, 0, work, cases);
+            with_places(name, &[record, &[0]].concat(), 12, work, cases);
         }
     }
 }
@@ -141,14 +157,14 @@ fn long_fields(cases: &mut Vec<Case>) {
     let plate = Plate::new(20, 9, |p| (p * 89 % 211) as u8);
     let record = plate.described(8).1;
     for length in (0..=record.len()).step_by(23) {
-        cases.push(Case::on_bytes("read", 180, 1_440, &record[..length]));
+        with_places("read", &record[..length], 180, 1_440, cases);
     }
     for i in (0..record.len()).step_by(17) {
         let mut other = record.clone();
         other[i] ^= 1;
-        cases.push(Case::on_bytes("read", 180, 1_441, &other));
+        with_places("read", &other, 180, 1_441, cases);
     }
-    cases.push(Case::on_bytes("read", 181, 1_440, &record));
+    with_places("read", &record, 181, 1_440, cases);
 }
 
 /// Records whose fields are in range and which are no plate's: 24.
@@ -171,7 +187,7 @@ fn other_plates(cases: &mut Vec<Case>) {
         all(record, cases);
         // 24 stands ahead of 4 and 5
         for name in ["read", "cut", "sizes"] {
-            cases.push(Case::on_bytes(name, 0, 97, record));
+            with_places(name, record, 0, 97, cases);
         }
     }
 }

@@ -1,7 +1,7 @@
 //! Cases on plates and on their records: every operation, limits of every
 //! kind, buffers that just fit and that just do not, every set of conditions.
 
-use super::{Case, Plate};
+use super::{on_record, Case, Plate};
 
 /// All of them.
 pub fn cases(cases: &mut Vec<Case>) {
@@ -12,12 +12,13 @@ pub fn cases(cases: &mut Vec<Case>) {
             recorded(&plate, connectivity, cases);
         }
     }
-    tickets(cases);
+    entries(cases);
+    parameters(cases);
     conditions(cases);
     large(cases);
 }
 
-/// 01's small plate and one pixel; equal greys apart; the edges; a peak on a
+/// The small plate and one pixel; equal greys apart; the edges; a peak on a
 /// step; a checkerboard; nested rings; one grey; a column; random greys.
 fn plates() -> Vec<Plate> {
     let apart = [5, 0, 5, 0, 5];
@@ -57,7 +58,7 @@ pub fn ring_of(p: u32, width: u32, height: u32) -> u8 {
 }
 
 /// Limits from 0 to the pixels and one more: the ends and some between.
-fn limits(pixels: usize) -> Vec<u32> {
+pub fn limits(pixels: usize) -> Vec<u32> {
     let n = pixels as u32;
     let mut limits = vec![0, 1, 2, 3, n / 2, n.saturating_sub(1), n, n + 1];
     limits.sort_unstable();
@@ -68,22 +69,35 @@ fn limits(pixels: usize) -> Vec<u32> {
 /// Opening, closing, marks.
 fn cleaned(plate: &Plate, connectivity: u32, cases: &mut Vec<Case>) {
     for limit in limits(plate.pixels()) {
-        cases.push(plate.case("open", connectivity, limit));
-        cases.push(plate.case("close", connectivity, limit));
+        cases.push(plate.cleaning("open", connectivity, limit));
+        cases.push(plate.cleaning("close", connectivity, limit));
     }
-    cases.push(plate.case("maxima", connectivity, 0));
+    let case = plate.case("maxima", connectivity);
+    cases.push(case.with("out", plate.pixels() + 1));
 }
 
-/// The node list: some excess, a column short, just enough places.
+/// The columns of the node list.
+const COLUMNS: [&str; 4] = ["levels", "parents", "areas", "anchors"];
+
+/// The case with so many places in each column.
+fn with_columns(case: Case<'static>, places: usize) -> Case<'static> {
+    COLUMNS
+        .into_iter()
+        .fold(case, |case, column| case.with(column, places))
+}
+
+/// The node list: some excess, just enough places, a column short; as entries.
 fn listed(plate: &Plate, connectivity: u32, cases: &mut Vec<Case>) {
     let (nodes, _) = plate.described(connectivity);
-    let mut case = plate.case("nodes", connectivity, 0);
-    case.places = nodes + 1;
-    cases.push(case.clone());
-    case.places = nodes;
-    for column in 0..=4 {
-        case.limit = column;
-        cases.push(case.clone());
+    let case = plate.case("nodes", connectivity);
+    cases.push(with_columns(case.clone(), nodes + 1));
+    let exact = with_columns(case, nodes);
+    cases.push(exact.clone());
+    for column in COLUMNS {
+        cases.push(exact.clone().with(column, nodes - 1));
+    }
+    for at in [0, nodes - 1, nodes] {
+        cases.push(plate.case("entries", connectivity).with("at", at));
     }
 }
 
@@ -92,43 +106,76 @@ fn recorded(plate: &Plate, connectivity: u32, cases: &mut Vec<Case>) {
     let (_, record) = plate.described(connectivity);
     let n = plate.pixels();
     for places in [record.len() - 1, record.len(), record.len() + 3] {
-        let mut case = plate.case("write", connectivity, 0);
-        case.places = places;
-        cases.push(case);
+        cases.push(plate.case("write", connectivity).with("out", places));
     }
     for places in [n - 1, n, n + 2] {
-        cases.push(Case::on_bytes("read", places, 8 * n + 1, &record));
+        cases.push(on_record("read", &record, 8 * n + 1).with("out", places));
     }
+    let cut = on_record("cut", &record, 8 * n);
     for limit in limits(n) {
-        let mut case = Case::on_bytes("cut", n + 1, 8 * n, &record);
-        case.limit = limit;
-        cases.push(case);
+        cases.push(cut.clone().with("limit", limit).with("out", n + 1));
     }
     for limit in [0, 1, n as u32 + 1] {
-        let mut case = Case::on_bytes("cut", n - 1, 8 * n, &record);
-        case.limit = limit;
-        cases.push(case);
+        cases.push(cut.clone().with("limit", limit).with("out", n - 1));
     }
     let enough = n - 1;
     let short = enough.saturating_sub(1);
     for (counts, losses) in [(enough, enough), (n, n + 1), (short, n), (n, short)] {
-        let mut case = Case::on_bytes("sizes", counts, 8 * n + 3, &record);
-        case.limit = losses as u32;
-        cases.push(case);
+        let sizes = on_record("sizes", &record, 8 * n + 3);
+        cases.push(sizes.with("counts", counts).with("losses", losses));
     }
 }
 
-/// Tickets beyond what 01 allows, one number at a time, for each operation.
-fn tickets(cases: &mut Vec<Case>) {
+/// Lists of entries: as many nodes as the six places, one grey in two places,
+/// one node too many, places in the list and beyond it.
+fn entries(cases: &mut Vec<Case>) {
+    let apart = [7, 200, 7, 200, 7, 9];
+    let plates = [
+        Plate::new(6, 1, |p| [0, 1, 2, 3, 4, 255][p as usize]),
+        Plate::new(3, 2, |p| apart[p as usize]),
+        Plate::new(1, 7, |p| p as u8),
+        Plate::small(),
+    ];
+    for plate in plates {
+        for at in [0, 1, 2, 3, 4, 5, 6, 7, 65_536, u32::MAX] {
+            cases.push(plate.case("entries", 4).with("at", at));
+        }
+        for work in [0, 8 * plate.pixels() - 1, 8 * plate.pixels()] {
+            cases.push(plate.case("entries", 8).with("work", work));
+        }
+    }
+}
+
+/// The operations on a plate.
+const OPERATIONS: [&str; 7] = [
+    "open", "close", "maxima", "nodes", "entries", "write", "joint",
+];
+
+/// A case of an operation on the small plate, with these places for anything.
+fn small(name: &'static str, connectivity: u32, limit: u32, places: usize) -> Case<'static> {
+    let case = Plate::small().case(name, connectivity);
+    places_of(case.with("limit", limit), places)
+}
+
+/// The case with so many places for each of its outputs.
+fn places_of(case: Case<'static>, places: usize) -> Case<'static> {
+    let outputs: &[&'static str] = match case.name {
+        "nodes" => &COLUMNS,
+        "entries" => &[],
+        "joint" => &["record", "out", "counts", "losses"],
+        _ => &["out"],
+    };
+    let outputs = outputs.iter();
+    outputs.fold(case, |case, output| case.with(output, places))
+}
+
+/// Numbers beyond what is allowed, one at a time, for each operation.
+fn parameters(cases: &mut Vec<Case>) {
     let most = u32::MAX;
-    for name in ["open", "close", "maxima", "nodes", "write"] {
-        let plate = Plate::small();
-        let mut base = plate.case(name, 4, 2);
-        base.places = 40;
+    for name in OPERATIONS {
+        let base = || small(name, 4, 2, 40);
         for connectivity in [0, 1, 3, 5, 6, 7, 9, 12, most] {
-            let mut case = base.clone();
-            case.connectivity = connectivity;
-            cases.push(case);
+            cases.push(base().with("connectivity", connectivity));
         }
         let sizes = [
             (0, 3),
@@ -147,56 +194,46 @@ fn tickets(cases: &mut Vec<Case>) {
             (2, 6),
         ];
         for (width, height) in sizes.into_iter().chain(wrapped) {
-            let mut case = base.clone();
-            (case.width, case.height) = (width, height);
-            cases.push(case);
+            cases.push(base().with("width", width).with("height", height));
         }
         for limit in [0, 13, 65_536, most] {
-            let mut case = base.clone();
-            case.limit = limit;
-            cases.push(case);
+            cases.push(base().with("limit", limit));
         }
         for places in [0, 1, 11, 12] {
-            let mut case = base.clone();
-            case.places = places;
-            cases.push(case);
+            cases.push(places_of(base(), places));
         }
-        for room in [0, 1, 95, 96] {
-            let mut case = base.clone();
-            case.room = room;
-            cases.push(case);
+        for work in [0, 1, 95, 96] {
+            cases.push(base().with("work", work));
         }
         for length in [0, 1, 11, 13] {
-            let mut case = base.clone();
-            case.bytes.resize(length, 10);
-            cases.push(case);
+            let mut greys = Plate::small().greys;
+            greys.resize(length, 10);
+            cases.push(base().on(&greys));
         }
     }
 }
 
-/// Every set of the conditions at once: the first in 01's order decides.
+/// Every set of the conditions at once: the first in the specification's
+/// order decides.
 fn conditions(cases: &mut Vec<Case>) {
-    for name in ["open", "close", "maxima", "nodes", "write"] {
+    for name in OPERATIONS {
         for met in 0..64 {
-            let mut case = Plate::small().case(name, 8, 3);
-            case.places = 30;
+            let places = if met & 16 != 0 { 3 } else { 30 };
+            let mut case = small(name, 8, 3, places);
             if met & 1 != 0 {
-                case.connectivity = 6;
+                case = case.with("connectivity", 6);
             }
             if met & 2 != 0 {
-                case.height = 0;
+                case = case.with("height", 0);
             }
             if met & 4 != 0 {
-                case.bytes.pop();
+                case = case.on(&Plate::small().greys[..11]);
             }
             if met & 8 != 0 {
-                case.limit = 0;
-            }
-            if met & 16 != 0 {
-                case.places = 3;
+                case = case.with("limit", 0);
             }
             if met & 32 != 0 {
-                case.room = 95;
+                case = case.with("work", 95);
             }
             cases.push(case);
         }
@@ -207,21 +244,17 @@ fn conditions(cases: &mut Vec<Case>) {
 fn large(cases: &mut Vec<Case>) {
     for patch in [65_535, 65_536, 65_537] {
         let plate = Plate::new(256, 257, |p| if p < patch { 200 } else { 10 });
+        let n = plate.pixels();
         for limit in [1, 255, 256, 65_535, 65_536, 65_537] {
-            cases.push(plate.case("open", 4, limit));
+            cases.push(plate.cleaning("open", 4, limit));
         }
         let (nodes, record) = plate.described(8);
-        let mut list = plate.case("nodes", 8, 0);
-        list.places = nodes;
-        cases.push(list);
-        let mut written = plate.case("write", 8, 0);
-        written.places = record.len();
-        cases.push(written);
-        let mut cut = Case::on_bytes("cut", plate.pixels(), 8 * plate.pixels(), &record);
-        cut.limit = 65_536;
-        cases.push(cut);
-        let mut sizes = Case::on_bytes("sizes", plate.pixels(), 8 * plate.pixels(), &record);
-        sizes.limit = plate.pixels() as u32;
-        cases.push(sizes);
+        cases.push(with_columns(plate.case("nodes", 8), nodes));
+        cases.push(plate.case("entries", 8).with("at", 1));
+        cases.push(plate.case("write", 8).with("out", record.len()));
+        let cut = on_record("cut", &record, 8 * n);
+        cases.push(cut.with("limit", 65_536).with("out", n));
+        let sizes = on_record("sizes", &record, 8 * n);
+        cases.push(sizes.with("counts", n).with("losses", n));
     }
 }

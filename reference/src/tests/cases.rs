@@ -1,8 +1,9 @@
-//! The cases of vectors: every refusal of every operation occurs, 01's
-//! unmarked cases are among them, and their lines are right.
+//! The cases of vectors: every refusal of every operation occurs, the
+//! specification's examples are among them, and their lines are right.
 
 use std::collections::BTreeSet;
 
+use crate::case::Case;
 use crate::*;
 
 /// The numbers that an operation answers in these lines.
@@ -17,16 +18,19 @@ fn answers(text: &str, name: &str) -> BTreeSet<u32> {
 #[test]
 fn every_refusal_occurs() {
     let text = vectors_text(&cases_text());
-    let expected: [(&str, &[u32]); 9] = [
+    let expected: [(&str, &[u32]); 12] = [
         ("open", &[0, 1, 2, 3, 4, 5, 6]),
         ("close", &[0, 1, 2, 3, 4, 5, 6]),
         ("maxima", &[0, 1, 2, 3, 5, 6]),
         ("nodes", &[0, 1, 2, 3, 5, 6]),
+        ("entries", &[0, 1, 2, 3, 5, 6]),
         ("write", &[0, 1, 2, 3, 5, 6]),
+        ("joint", &[0, 1, 2, 3, 4, 5, 6]),
         ("read", &[0, 5, 6, 20, 21, 22, 23, 24]),
         ("cut", &[0, 4, 5, 6, 20, 21, 22, 23, 24]),
         ("sizes", &[0, 5, 6, 20, 21, 22, 23, 24]),
         ("file", &[0, 2, 5, 10, 11, 12, 14, 15]),
+        ("header", &[0, 10, 11]),
     ];
     for (name, numbers) in expected {
         assert_eq!(
@@ -37,28 +41,90 @@ fn every_refusal_occurs() {
     }
 }
 
-/// A case with its line, as 01 words it.
+#[test]
+fn a_line_spells_its_case() {
+    for line in cases_text().lines() {
+        assert_eq!(Case::of(line).line(), format!("{line}\n"));
+    }
+    let case = Case::of("open width 7 bytes 1*3 65535 marker 2 2*2");
+    assert_eq!((case.number("width"), case.number("height")), (7, 0));
+    assert_eq!(case.list("bytes"), [1, 1, 1, 65_535]);
+    assert_eq!(case.list("marker"), [2; 3]);
+    assert_eq!(case.list("wid"), []);
+}
+
+/// The program vectors reads at most this many bytes, and bytes of at most
+/// this many, and lends at most this many places.
+#[test]
+fn the_program_holds_every_case() {
+    assert!(cases_text().len() <= 1_048_576);
+    for line in cases_text().lines() {
+        let case = Case::of(line);
+        assert!(case.bytes().len() <= 66_000, "{line}");
+        for buffer in ["out", "record", "counts", "losses", "levels"] {
+            assert!(case.number(buffer) <= 66_000, "{line}");
+        }
+        assert!(case.number("work") <= 528_100, "{line}");
+    }
+}
+
+/// A case with its line.
 fn holds(case: &str, line: &str) {
     assert_eq!(vectors_text(&format!("{case}\n")), format!("{line}\n"));
     assert!(cases_text().lines().any(|other| other == case), "{case}");
 }
 
+const SMALL_GREYS: &str = "bytes 10*5 50 30 10*4 90";
+const SMALL_FIELDS: &str = "4 3 4*2 10 12 1 20 2 1 20 1 3 80 1 0*5 2 1 0*4 3";
+
 #[test]
-fn the_papers_unmarked_cases() {
-    let small = "10*5 50 30 10*4 90";
+fn the_specifications_examples() {
+    let plate = "width 4 height 3 connectivity 4 work 98";
     for limit in [0, 13] {
-        let case = format!("open 4 3 4 {limit} 13 98 {small}");
+        let case = format!("open {plate} limit {limit} out 13 {SMALL_GREYS}");
         holds(&case, "open 4 | 170*13 | 7*98");
     }
-    holds("open 1 1 4 1 2 10 7", "open 0 | 7 170 | 0*8 7*2");
-    let record = "4 3 4*2 10 12 1 20 2 1 20 1 3 80 1 0*5 2 1 0*4 3";
     holds(
-        &format!("write 4 3 4 0 27 98 {small}"),
-        &format!("write 0 27 | {record} | 0*96 7*2"),
+        "open width 1 height 1 connectivity 4 work 10 limit 1 out 2 bytes 7",
+        "open 0 | 7 170 | 0*8 7*2",
+    );
+    holds(
+        &format!("write {plate} out 27 {SMALL_GREYS}"),
+        &format!("write 0 27 | {SMALL_FIELDS} | 0*96 7*2"),
     );
     // the first byte 132, followed by 0
     holds(
-        "read 0 0 0 0 12 97 132 0 3 4*2 10 12 1 20 2 1 20 1 3 80 1 0*5 2 1 0*4 3",
+        &format!("read work 97 out 12 bytes 132 0{}", &SMALL_FIELDS[1..]),
         "read 21 0 0 0 | 170*12 | 7*97",
+    );
+}
+
+#[test]
+fn the_small_plate_as_entries_and_jointly() {
+    let plate = "width 4 height 3 connectivity 4 work 98";
+    holds(
+        &format!("entries {plate} at 3 {SMALL_GREYS}"),
+        "entries 0 4 | 10 0 12 0 | 30 0 2 6 | 50 1*2 5 | 90 0 1 11 | 9*4 | 9*4 | 90 0 1 11 | 0*96 7*2",
+    );
+    holds(
+        &format!("joint {plate} limit 2 out 13 record 30 counts 12 losses 13 {SMALL_GREYS}"),
+        &format!(
+            "joint 0 27 4 10 | {SMALL_FIELDS} 170*3 | 10*5 30*2 10*5 170 | \
+             2 1 0*9 9 | 100 40 0*9 9*2 | 0*96 7*2"
+        ),
+    );
+}
+
+#[test]
+fn the_second_of_two_images() {
+    let images = "80 53 10 51 32 50 10 50 53*2 10 128*6 80 53 10 49 32 49 10 50 53*2 10 64";
+    holds(
+        &format!("header at 17 bytes {images}"),
+        "header 0 1 1 255 28",
+    );
+    holds(&format!("header at 16 bytes {images}"), "header 10 0 0 0 0");
+    holds(
+        &format!("file out 13 bytes {images}"),
+        "file 15 0 0 | 170*13",
     );
 }

@@ -1,4 +1,4 @@
-//! All of the paper's examples.
+//! All of the specification's examples.
 
 use super::helpers::*;
 use crate::*;

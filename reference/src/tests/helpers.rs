@@ -75,21 +75,19 @@ fn ends_untouched(out: &[u8], length: usize) -> bool {
 
 /// Opens with ample buffers, checks the buffers, returns the plate.
 pub fn opened(plate: &[u8], width: u32, height: u32, connectivity: u32, limit: u32) -> Vec<u8> {
-    sieved(area_open, plate, (width, height, connectivity), limit)
+    cleaned(area_open, plate, (width, height, connectivity), limit)
 }
 
 /// Closes with ample buffers, checks the buffers, returns the plate.
 pub fn closed(plate: &[u8], width: u32, height: u32, connectivity: u32, limit: u32) -> Vec<u8> {
-    sieved(area_close, plate, (width, height, connectivity), limit)
+    cleaned(area_close, plate, (width, height, connectivity), limit)
 }
 
-type Sieve = fn(&[u8], u32, u32, u32, u32, &mut [u8], &mut [u32]) -> Done;
-
-fn sieved(sieve: Sieve, plate: &[u8], (w, h, c): (u32, u32, u32), limit: u32) -> Vec<u8> {
+fn cleaned(clean: Cleaning, plate: &[u8], (w, h, c): (u32, u32, u32), limit: u32) -> Vec<u8> {
     let n = plate.len();
     let mut out = vec![BYTE; n + EXCESS];
     let mut work = work_of(8 * n + EXCESS);
-    assert_eq!(sieve(plate, w, h, c, limit, &mut out, &mut work).refusal, 0);
+    assert_eq!(clean(plate, w, h, c, limit, &mut out, &mut work).refusal, 0);
     assert!(ends_untouched(&out, n) && work_zeroed(&work, n));
     out.truncate(n);
     out
@@ -207,6 +205,41 @@ pub fn sized(record: &[u8], n: usize) -> (SizeHead, Vec<u32>, Vec<u64>) {
     counts.truncate(n - 1);
     losses.truncate(n - 1);
     (head, counts, losses)
+}
+
+/// The buffers of the joint operation.
+#[derive(Debug, PartialEq, Eq)]
+pub struct Joint {
+    pub record: Vec<u8>,
+    pub out: Vec<u8>,
+    pub counts: Vec<u32>,
+    pub losses: Vec<u64>,
+    pub work: Vec<u32>,
+}
+
+impl Joint {
+    /// Buffers of these lengths, all sentinels: record, cut, counts, losses,
+    /// work space.
+    pub fn of(lengths: [usize; 5]) -> Joint {
+        Joint {
+            record: vec![BYTE; lengths[0]],
+            out: vec![BYTE; lengths[1]],
+            counts: vec![WORD; lengths[2]],
+            losses: vec![LONG; lengths[3]],
+            work: work_of(lengths[4]),
+        }
+    }
+
+    /// The joint operation over these buffers.
+    pub fn run(&mut self, plate: &[u8], (w, h, c): (u32, u32, u32), limit: u32) -> JointHead {
+        let outputs = JointOutputs {
+            record: &mut self.record,
+            out: &mut self.out,
+            counts: &mut self.counts,
+            losses: &mut self.losses,
+        };
+        write_cut_list(plate, w, h, c, limit, outputs, &mut self.work)
+    }
 }
 
 /// A plate file with the usual header.

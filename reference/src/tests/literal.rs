@@ -1,4 +1,4 @@
-//! The paper's meanings taken literally, over all sets of pixels of tiny
+//! The specification's meanings taken literally, over all sets of pixels of tiny
 //! plates, against the flood fills.
 
 use super::helpers::*;

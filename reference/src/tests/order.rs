@@ -1,4 +1,4 @@
-//! The first condition in the paper's order decides: inputs that meet every
+//! The first condition in the specification's order decides: inputs that meet every
 //! condition of an operation at once, mended one condition after another.
 
 use super::helpers::*;
@@ -64,6 +64,65 @@ fn listing_and_writing_in_order() {
         let mut columns = Columns::of([places; 4]);
         let listing = node_list(plate, w, h, c, columns.lent(), &mut work);
         assert_eq!((writing.refusal, listing.refusal), (number, number));
+    }
+}
+
+#[test]
+fn the_joint_operation_in_order() {
+    let small = SMALL.to_vec();
+    let long = vec![0; 13];
+    // plate, shape, limit, places of cut, counts, losses, work space and record, and the number
+    let cases = [
+        (&long, (0, 3, 3), 0, [0; 5], 1),
+        (&long, (0, 3, 4), 0, [0; 5], 2),
+        (&long, (4, 3, 4), 0, [0; 5], 3),
+        (&small, (4, 3, 4), 0, [0; 5], 4),
+        (&small, (4, 3, 4), 13, [0; 5], 4),
+        (&small, (4, 3, 4), 12, [11, 11, 11, 0, 0], 5),
+        (&small, (4, 3, 4), 12, [12, 10, 11, 0, 0], 5),
+        (&small, (4, 3, 4), 12, [12, 11, 10, 0, 0], 5),
+        (&small, (4, 3, 4), 12, [12, 11, 11, 95, 0], 6),
+        (&small, (4, 3, 4), 12, [12, 11, 11, 96, 26], 5),
+        (&small, (4, 3, 4), 12, [12, 11, 11, 96, 27], 0),
+    ];
+    for (plate, shape, limit, [cut, counts, losses, work, record], number) in cases {
+        let mut lent = Joint::of([record, cut, counts, losses, work]);
+        let head = lent.run(plate, shape, limit);
+        assert_eq!(head.refusal, number);
+        let untouched = number != 0 && work < 96;
+        assert!(if untouched {
+            work_untouched(&lent.work)
+        } else {
+            work_zeroed(&lent.work, 12)
+        });
+        if number != 0 {
+            let refused = JointHead {
+                refusal: number,
+                ..JointHead::default()
+            };
+            assert_eq!(head, refused);
+            lent.work = work_of(work);
+            assert_eq!(lent, Joint::of([record, cut, counts, losses, work]));
+        }
+    }
+}
+
+#[test]
+fn headers_in_order() {
+    for (file, at, number) in [
+        (&b"p5 x"[..], 0, 10),
+        (b"P5 x", 0, 11),
+        (b"P5 1 1 255", 0, 11),
+        (b"P5 1 1 255 ", 1, 10),
+        (b"P5 1 1 255 ", 11, 10),
+        (b"P5 1 1 255 ", 12, 10),
+        (b"P5 1 1 255 ", usize::MAX, 10),
+    ] {
+        let refused = Header {
+            refusal: number,
+            ..Header::default()
+        };
+        assert_eq!(header_at(file, at), refused);
     }
 }
 

@@ -204,3 +204,82 @@ fn the_text_goes_by_the_size_list() {
         assert_eq!(text, lines.join("\n") + "\n");
     }
 }
+
+#[test]
+fn entries_hold_the_columns() {
+    let mut random = Lcg(36);
+    for round in 0..200 {
+        let (plate, width, height) = random.plate(6);
+        let connectivity = 4 + 4 * (round % 2);
+        let columns = listed(&plate, width, height, connectivity);
+        let count = columns.levels.len();
+        let before = NodeEntry::of([WORD; 4]);
+        let mut list = vec![before; count + 2];
+        let mut work = work_of(8 * plate.len() + EXCESS);
+        let answer = node_entries(&plate, width, height, connectivity, &mut list, &mut work);
+        assert_eq!((answer.refusal, answer.count as usize), (0, count));
+        assert!(work_zeroed(&work, plate.len()));
+        for i in 0..count {
+            let level = columns.levels[i].into();
+            let (parent, area) = (columns.parents[i], columns.areas[i]);
+            let entry = NodeEntry::of([level, parent, area, columns.anchors[i]]);
+            assert_eq!(node_at(&list, i), entry);
+        }
+        assert_eq!(list[count..], [before; 2]);
+        assert_eq!(node_at(&list, count + 2), NodeEntry::default());
+        let mut short = vec![before; count - 1];
+        let answer = node_entries(&plate, width, height, connectivity, &mut short, &mut work);
+        assert_eq!((answer.refusal, answer.count), (5, 0));
+        assert_eq!(short, vec![before; count - 1]);
+    }
+}
+
+#[test]
+fn the_joint_operation_is_the_three_in_turn() {
+    let mut random = Lcg(37);
+    for round in 0..200 {
+        let (plate, width, height) = random.plate(6);
+        let connectivity = 4 + 4 * (round % 2);
+        let n = plate.len();
+        let limit = 1 + random.below(n as u32);
+        let record = written(&plate, width, height, connectivity);
+        let (_, cut) = cut_back(&record, limit, n);
+        let (sizes, counts, losses) = sized(&record, n);
+        let mut lent = Joint::of([record.len(), n, n - 1, n - 1, 8 * n]);
+        let head = lent.run(&plate, (width, height, connectivity), limit);
+        assert_eq!((head.refusal, head.length), (0, record.len()));
+        assert_eq!((head.nodes, head.darkest), (sizes.nodes, sizes.darkest));
+        assert_eq!((lent.record, lent.out), (record, cut));
+        assert_eq!((lent.counts, lent.losses), (counts, losses));
+        assert!(work_zeroed(&lent.work, n));
+    }
+}
+
+#[test]
+fn a_header_in_the_middle_is_the_header_alone() {
+    let mut random = Lcg(38);
+    let letters = b"P5 \n#\t\r0129";
+    for _ in 0..4_000 {
+        let length = random.below(24) as usize;
+        let mut header = b"P5 1 1 255 ".to_vec();
+        for _ in 0..length {
+            let at = random.below(1 + header.len() as u32) as usize;
+            let letter = letters[random.below(letters.len() as u32) as usize];
+            header.insert(at, letter);
+        }
+        let before: Vec<u8> = (0..random.below(9)).map(|_| b'5').collect();
+        let alone = header_at(&header, 0);
+        let placed = header_at(&[&before[..], &header].concat(), before.len());
+        let moved = match alone.refusal {
+            0 => alone.raster + before.len(),
+            _ => 0,
+        };
+        assert_eq!(
+            placed,
+            Header {
+                raster: moved,
+                ..alone
+            }
+        );
+    }
+}

@@ -1,4 +1,4 @@
-//! The slips that the paper names.
+//! The slips that the specification names.
 
 use super::helpers::*;
 use crate::*;

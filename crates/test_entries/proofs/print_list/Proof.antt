@@ -19,8 +19,8 @@ mul-node c = omega arith
 array-copy-out-node : tie.Need-array-copy-out-node Inv-loop μ-loop
 array-copy-out-node c = omega arith
 
-print-entry-requires : tie.Need-print-entry-requires Inv-loop μ-loop
-print-entry-requires c κs = tt
+print-node-requires : tie.Need-print-node-requires Inv-loop μ-loop
+print-node-requires c κs = tt
 
 add-i : tie.Need-add-i Inv-loop μ-loop
 add-i c = omega arith
@@ -35,4 +35,4 @@ returns : tie.Need-returns Inv-loop μ-loop
 returns c = tt
 
 pub print-list-spec : {M : Type 1} → statement M
-print-list-spec = tie.close (tie.spec Inv-loop μ-loop loop-holds mul-node array-copy-out-node print-entry-requires add-i loop-less loop-again returns)
+print-list-spec = tie.close (tie.spec Inv-loop μ-loop loop-holds mul-node array-copy-out-node print-node-requires add-i loop-less loop-again returns)

@@ -1,10 +1,10 @@
--- `test_case_runs::text` is safe: what it prints is the part of the text that was made.
+-- `files::text` is safe: what it prints is the part of the text that was made.
 use Rattle.text_sizelist.proofs.Files.{made-fits}
 use borrow.Author.Needs.{needs}
 use lib.Seq.{length-take-le}
 use mathlib.Core.Path.{sym}
-use Rattle.test_case_runs.proofs.text.Statement.{statement}
-use Rattle.test_case_runs.proofs.text.Tie as tie
+use Rattle.test_case_runs.proofs.files.text.Statement.{statement}
+use Rattle.test_case_runs.proofs.files.text.Tie as tie
 
 large-buffer-requires : tie.Need-large-buffer-requires
 large-buffer-requires c κs = search needs

@@ -1,9 +1,9 @@
--- `test_case_runs::ink` is safe and ends.
+-- `files::ink` is safe and ends.
 use Prim.Native.Nat.{_-_, _≤_}
 use lib.ListN.{length}
 use native.Mathlib.Omega.{arith}
-use Rattle.test_case_runs.proofs.ink.Statement.{statement}
-use Rattle.test_case_runs.proofs.ink.Tie as tie
+use Rattle.test_case_runs.proofs.files.ink.Statement.{statement}
+use Rattle.test_case_runs.proofs.files.ink.Tie as tie
 
 abbrev Inv-loop : tie.InvT-loop
 Inv-loop bytes i₀ i = i ≤ length bytes

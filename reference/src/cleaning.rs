@@ -4,6 +4,10 @@ use crate::grid::{check_plate, thresholds, Grid};
 use crate::work::{check_work, zero_work};
 use crate::Done;
 
+/// Opening or closing: plate, width, height, connectivity, limit, output,
+/// work space.
+pub type Cleaning = fn(&[u8], u32, u32, u32, u32, &mut [u8], &mut [u32]) -> Done;
+
 /// Opens the plate: light patches below the limit are cleaned.
 pub fn area_open(
     plate: &[u8],
@@ -14,7 +18,7 @@ pub fn area_open(
     out: &mut [u8],
     work: &mut [u32],
 ) -> Done {
-    let grid = match check_sieve(plate, (width, height, connectivity), limit, out, work) {
+    let grid = match check_cleaning(plate, (width, height, connectivity), limit, out, work) {
         Ok(grid) => grid,
         Err(refusal) => return Done { refusal },
     };
@@ -34,7 +38,7 @@ pub fn area_close(
     out: &mut [u8],
     work: &mut [u32],
 ) -> Done {
-    let grid = match check_sieve(plate, (width, height, connectivity), limit, out, work) {
+    let grid = match check_cleaning(plate, (width, height, connectivity), limit, out, work) {
         Ok(grid) => grid,
         Err(refusal) => return Done { refusal },
     };
@@ -45,21 +49,31 @@ pub fn area_close(
 }
 
 /// The conditions of opening and closing: 1, 2, 3, 4, 5, 6.
-fn check_sieve(
+fn check_cleaning(
     plate: &[u8],
-    (width, height, connectivity): (u32, u32, u32),
+    shape: (u32, u32, u32),
     limit: u32,
     out: &[u8],
     work: &[u32],
+) -> Result<Grid, u32> {
+    let grid = check_limit(plate, shape, limit)?;
+    if out.len() < grid.pixels() {
+        return Err(5);
+    }
+    check_work(work, grid.pixels())?;
+    Ok(grid)
+}
+
+/// The conditions on a plate and a limit: 1, 2, 3, 4.
+pub fn check_limit(
+    plate: &[u8],
+    (width, height, connectivity): (u32, u32, u32),
+    limit: u32,
 ) -> Result<Grid, u32> {
     let grid = check_plate(plate, width, height, connectivity)?;
     if limit == 0 || limit as usize > grid.pixels() {
         return Err(4);
     }
-    if out.len() < grid.pixels() {
-        return Err(5);
-    }
-    check_work(work, grid.pixels())?;
     Ok(grid)
 }
 
