@@ -7,10 +7,7 @@ use lib.Dec.{eqb}
 use lib.ListN.{length, drop, replicate}
 use borrow.Author.Tests.{ne-eqb, lt-ltb, le-ltb}
 use Rattle.meaning.specs.Answers.{outRefusal, over, plateRefusal, workRefusal}
-use Rattle.meaning.specs.Plate.{grey}
 use Rattle.meaning.specs.Record.{recordOf}
-use Rattle.work_columns.specs.Columns.{col}
-use Rattle.work_columns.specs.Layout.{GREY}
 use Rattle.plate_refusals.proofs.Refusals.{Listable, tree-early, tree-first, tree-later, tree-none, plate-later}
 use Rattle.plate_greys.specs.Standing.{Standing}
 use Rattle.plate_greys.specs.Tree.{PlateTree, Ready}
@@ -37,21 +34,9 @@ module _ (k w h : ℕ) (f out work : List ℕ) {r : ℕ} (e : r ≡ plateRefusal
     pub wrote-ready : Ready k w h f work
     wrote-ready = record { taken = plate-later k w h (length f) 0 (listable .taken); room = listable .space }
 
-    module _ {w₁ : List ℕ} {count : ℕ} (p : PlateTree false k w f work w₁ count) where
+    module _ {w₁ : List ℕ} {count : ℕ} (p : PlateTree false k w h f work w₁ count) where
       plate-tree-standing : Standing k w h f w₁ count
-      plate-tree-standing =
-          let same : col GREY (length f) w₁ ≡ grey f = p .same in
-          record {
-            plate = record {
-              kind = listable .taken .kind;
-              sizes = listable .taken .grid;
-              long = listable .taken .long;
-              greys = λ q l. rw same at (p .facts .tree .greys q l);
-            };
-            room = p .room;
-            same = p .same;
-            facts = p .facts;
-          }
+      plate-tree-standing = record { plate = p .plate; room = p .room; same = p .same; facts = p .facts }
 
       pub wrote-here : Standing k w h (plateIn (length f) w₁) w₁ count
       wrote-here = standing-here plate-tree-standing (length f) refl

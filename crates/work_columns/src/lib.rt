@@ -5,6 +5,31 @@ ghost use Prim.Native.Nat.{_+_, _*_, _<_};
 ghost use lib.ListN.{drop, replicate};
 ghost use Rattle.work_columns.specs.Columns.{col, Room, Stored};
 
+// The columns, as specs/Layout.antt names them.
+pub const GREY: usize = 0;
+
+pub const OWN: usize = 1;
+
+pub const STACK: usize = 2;
+
+pub const ANCHOR: usize = 2;
+
+pub const LEVEL: usize = 3;
+
+pub const FLOODPARENT: usize = 3;
+
+pub const FLOODAREA: usize = 4;
+
+pub const NUMBER: usize = 4;
+
+pub const VALUE: usize = 4;
+
+pub const PARENT: usize = 5;
+
+pub const FIRST: usize = 6;
+
+pub const AREA: usize = 7;
+
 // The entry i of column c.
 pub fn get(w: &[u32], n: usize, c: usize, i: usize) -> usize
     requires { ⌜ Room (now w) n ⌝ }

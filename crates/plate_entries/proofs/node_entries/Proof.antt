@@ -42,14 +42,14 @@ use denote.Triple.Walked.{says, Stays, stay-none, stay-none-slice, gave-slice, w
 use denote.Exit.{yes}
 use denote.Signature.{plain}
 use Rattle.meaning.specs.Sets.{pick as choose, table}
-use Rattle.plate_filter.specs.declared.NodeList.{NodeList}
-use Rattle.plate_filter.specs.Operations.{Started}
-use Rattle.plate_filter.proofs.NodeList as N
-use Rattle.plate_filter.proofs.NodeList.Laws as N′
-use Rattle.plate_filter.proofs.start_list as starting
-use Rattle.plate_filter.proofs.start_list.Symbol as starting-def
-use Rattle.plate_filter.proofs.start_list.Symbol.{name as #plate-filter·start-list}
-use Rattle.plate_filter.proofs.start_list.Met as starting-thm
+use Rattle.plate_tree.specs.declared.NodeList.{NodeList}
+use Rattle.plate_tree.specs.Listing.{Started}
+use Rattle.plate_tree.proofs.NodeList as N
+use Rattle.plate_tree.proofs.NodeList.Laws as N′
+use Rattle.plate_tree.proofs.start_list as starting
+use Rattle.plate_tree.proofs.start_list.Symbol as starting-def
+use Rattle.plate_tree.proofs.start_list.Symbol.{name as #plate-tree·start-list}
+use Rattle.plate_tree.proofs.start_list.Met as starting-thm
 use Rattle.plate_entries.specs.declared.Node.{Node}
 use Rattle.plate_entries.specs.Entries.{EntriesListed, overNodes, standing}
 use Rattle.plate_entries.proofs.Lent.{LentAgain, LentShared, comes-back, lends-again, lends-shared, shared-back}
@@ -187,7 +187,7 @@ module _ {M : Type 1} (𝓤 : URA M) (H : Heap 𝓤) (A : Atoms 𝓤) (W : Given
       abbrev zeroed : List ℕ
       zeroed = choose (eqb (r .refusal) 0) (replicate (8 * length f) 0 ++ drop-list (8 * length f) ws₁) ws₁
 
-    module _ (C : Calls 𝓤 H) (Λ : Loops 𝓤 H) (fm : FmC 𝓤 H (W .laws) C) (known-start : Triple 𝓤 (C #plate-filter·start-list) (Start 𝓤 H A mem run)) (known-fill : Triple 𝓤 (C #plate-entries·fill) (Fill 𝓤 H A mem run)) (known-end : Triple 𝓤 (C #plate-entries·end-list) (End 𝓤 H A mem run)) where
+    module _ (C : Calls 𝓤 H) (Λ : Loops 𝓤 H) (fm : FmC 𝓤 H (W .laws) C) (known-start : Triple 𝓤 (C #plate-tree·start-list) (Start 𝓤 H A mem run)) (known-fill : Triple 𝓤 (C #plate-entries·fill) (Fill 𝓤 H A mem run)) (known-end : Triple 𝓤 (C #plate-entries·end-list) (End 𝓤 H A mem run)) where
       walk : ent 𝓤 (onEntry 𝓤 H A listing.signature (κ₀, (κ₁, (κ₂, tt))) (q₀, (q₁, (q₂, tt))) a vals) (WpFn 𝓤 H C Λ code.function (s₀ ∷ vint w32 w ∷ vint w32 h ∷ vint w32 k ∷ s₁ ∷ s₂ ∷ []) Post)
       walk =
           qed W ((‵ (flft κ₀ q₀) ⊛ (‵ (flft κ₁ q₁) ⊛ (‵ (flft κ₂ q₂) ⊛ ‵ ftrue))) ∷ ‵ (owns (ShrSlice (named 0) κ₀ u8 ∷ u32 ∷ u32 ∷ u32 ∷ MutSlice (named 1) κ₁ T.the-row ∷ MutSlice (named 2) κ₂ u32 ∷ []) a vals) ∷ []) ∵
@@ -272,7 +272,7 @@ module _ {M : Type 1} (𝓤 : URA M) (H : Heap 𝓤) (A : Atoms 𝓤) (W : Given
           free0 ! $ keep ! (8 ∷ 5 ∷ 1 ∷ 10 ∷ 6 ∷ 2 ∷ 9 ∷ []) $ by ! (exits r (zs₁ .0) (zs₂ .0) len₁ (len₂ ∙ l) (entries-listed ys (r .refusal) (r .count) st e₁ e₂)))))))))))))))))))))))))))))))))))))))))))))
 
 module _ {M : Type 1} (𝓤 : URA M) (H : Heap 𝓤) (A : Atoms 𝓤) (W : Given 𝓤 H A) (mem : Memory → SProp 𝓤) (run : Routine → Fun 𝓤) (𝓣 : Tables 𝓤 H)
-    (known-start : Triple 𝓤 (𝓣 .C #plate-filter·start-list) (Start 𝓤 H A mem run)) (known-fill : Triple 𝓤 (𝓣 .C #plate-entries·fill) (Fill 𝓤 H A mem run)) (known-end : Triple 𝓤 (𝓣 .C #plate-entries·end-list) (End 𝓤 H A mem run)) where
+    (known-start : Triple 𝓤 (𝓣 .C #plate-tree·start-list) (Start 𝓤 H A mem run)) (known-fill : Triple 𝓤 (𝓣 .C #plate-entries·fill) (Fill 𝓤 H A mem run)) (known-end : Triple 𝓤 (𝓣 .C #plate-entries·end-list) (End 𝓤 H A mem run)) where
   node-entries-walks : Walks 𝓤 H A listing.ended stayed (WpFn 𝓤 H (𝓣 .C) (𝓣 .Λ) code.function) (listing.clauses 𝓤 H A mem run)
   node-entries-walks = walked 𝓤 H A listing.ended stayed (listing.clauses 𝓤 H A mem run) (WpFn 𝓤 H (𝓣 .C) (𝓣 .Λ) code.function)
       (λ κs. (slice-vals, (uint-vals w32, (uint-vals w32, (uint-vals w32, (slice-vals, (slice-vals, tt)))))))
@@ -306,6 +306,6 @@ node-entries-spec 𝓤 H 𝓜 𝓖 𝓡 =
     entered 𝓤 H (tripleOf 𝓤 H (𝓖 .A) listing.signature (listing.spec 𝓤 H (𝓖 .A) (𝓜 .mem) (𝓡 .run)))
     (tables 𝓤 H 𝓜 𝓡 code.env .C) (tables 𝓤 H 𝓜 𝓡 code.env .Λ) #plate-entries·node-entries code.function (code.unfolded 𝓤 H 𝓜 𝓡)
     (node-entries-meets 𝓤 H (𝓖 .A) (givenOf 𝓤 H 𝓜 𝓖) (𝓜 .mem) (𝓡 .run) (tablesOf 𝓤 H 𝓜 (tables 𝓤 H 𝓜 𝓡 code.env))
-    (cited 𝓤 H (Start 𝓤 H (𝓖 .A) (𝓜 .mem) (𝓡 .run)) 𝓜 𝓡 code.env #plate-filter·start-list starting-def.routine code.calls-plate-filter·start-list (starting-thm.met 𝓤 H 𝓜 𝓖 𝓡))
+    (cited 𝓤 H (Start 𝓤 H (𝓖 .A) (𝓜 .mem) (𝓡 .run)) 𝓜 𝓡 code.env #plate-tree·start-list starting-def.routine code.calls-plate-tree·start-list (starting-thm.met 𝓤 H 𝓜 𝓖 𝓡))
     (cited 𝓤 H (Fill 𝓤 H (𝓖 .A) (𝓜 .mem) (𝓡 .run)) 𝓜 𝓡 code.env #plate-entries·fill filling-def.routine code.calls-plate-entries·fill (filling-thm.met 𝓤 H 𝓜 𝓖 𝓡))
     (cited 𝓤 H (End 𝓤 H (𝓖 .A) (𝓜 .mem) (𝓡 .run)) 𝓜 𝓡 code.env #plate-entries·end-list ending-def.routine code.calls-plate-entries·end-list (ending-thm.met 𝓤 H 𝓜 𝓖 𝓡)))
