@@ -1,5 +1,6 @@
 -- Demand 2's words for cleaning, as one claim about `area_open` and `area_close`: it starts from their contracts and asks nothing else.
--- k: connectivity, w: width, h: height, f: the plate; out, work: the buffers as they were lent, out′, work′: as they are left.
+-- k: connectivity, w: width, h: height, f: the plate; out, work: the buffers as they were lent, out′, work′: as they are left; r: what was returned.
+use mathlib.Core.Path.{_≡_}
 use mathlib.Core.Logic.{_↔_}
 use mathlib.Core.List.{List}
 use Prim.Native.Nat.{ℕ, _-_, _≤_, _<_}
@@ -17,7 +18,9 @@ HoldsOpened k w limit f out = (t p : ℕ) → p < length f → Region (length f)
 abbrev pub HoldsClosed : (k w limit : ℕ) (f out : List ℕ) → Type 0
 HoldsClosed k w limit f out = (t p : ℕ) → p < length f → Region (length f) (touch k w) (grey (negative f)) limit t p ↔ t ≤ greatestGrey - nth out p
 
--- whoever was answered 0 holds such an output
+-- what is not refused is cleaned
 pub record CleaningClaim : Type 0 where
-  pub opening : (k w h limit : ℕ) (f out out′ work work′ : List ℕ) → Opened k w h limit f out out′ work work′ 0 → HoldsOpened k w limit f out′
-  pub closing : (k w h limit : ℕ) (f out out′ work work′ : List ℕ) → Closed k w h limit f out out′ work work′ 0 → HoldsClosed k w limit f out′
+  pub opening : (k w h limit : ℕ) (f out out′ work work′ : List ℕ) (r : ℕ) → Opened k w h limit f out out′ work work′ r → r ≡ 0
+      → HoldsOpened k w limit f out′
+  pub closing : (k w h limit : ℕ) (f out out′ work work′ : List ℕ) (r : ℕ) → Closed k w h limit f out out′ work work′ r → r ≡ 0
+      → HoldsClosed k w limit f out′

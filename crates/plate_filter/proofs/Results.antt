@@ -1,20 +1,20 @@
 -- From the columns of the work space to the definitions: the values of the nodes are the opening's greys, or the marks of the maxima; the columns are
 -- those of the node list.
-use mathlib.Core.Path.{_≡_, refl, sym, ap, _∙_}
+use mathlib.Core.Path.{_≡_, sym, ap, _∙_}
 use mathlib.Core.Bool.{Bool, true, false, not, _&&_}
 use mathlib.Core.List.{List}
-use Prim.Native.Nat.{ℕ, _+_, _-_, _*_, _≤_, _<_}
+use Prim.Native.Nat.{ℕ, _-_, _≤_, _<_}
 use native.Mathlib.Omega.{arith}
 use lib.Dec.{T, leb, ltb, eqb, leb→le, nleb→lt, not-T, T-not, eqb→eq, eqb-refl, ltb→lt, lt→ltb}
 use lib.ListN.{length}
 use lib.Seq.{ext-getD}
 use borrow.Author.Tests.{ne-eqb}
-use Rattle.meaning.specs.Component.{grown, same}
+use Rattle.meaning.specs.Component.{same}
 use Rattle.meaning.specs.Maxima.{marks, maximum}
-use Rattle.meaning.specs.Nodes.{anchors, areaOf, holds, nodesOf, own, parent}
+use Rattle.meaning.specs.Nodes.{anchors, areaOf, holds, own, parent}
 use Rattle.meaning.specs.Opening.{Criterion, atLeast, attribute, opened, openedAt}
 use Rattle.meaning.specs.Paths.{here}
-use Rattle.meaning.specs.Plate.{Plate, greatestGrey, grey, touch}
+use Rattle.meaning.specs.Plate.{Plate, greatestGrey, touch}
 use Rattle.meaning.specs.Sets.{area, bit, nth, table}
 use Rattle.theory_lists.proofs.Lists.{getD-table, length-table, table-same}
 use Rattle.theory_lists.proofs.Sets.{greatest-le, some-elim, some-intro}
@@ -183,7 +183,9 @@ module _ {k wd ht : ℕ} {f v w : List ℕ} {count : ℕ} (p : PlateTree false k
     mark-is : (q : ℕ) → q < n p → col VALUE (n p) w′ (col OWN (n p) w′ q) ≡ bit (maximum (n p) (near p) (g p) q)
     mark-is q l =
         value-own p (c .valued) (λ (j : ℕ). bit (not (hasChild count (col PARENT (n p) w) j))) (c .values) q l
-        ∙ ap bit (same-test (not (hasChild count (col PARENT (n p) w) (own (n p) (near p) (g p) (xs p) q))) (maximum (n p) (near p) (g p) q) (childless-maximum q l) (maximum-childless q l))
+        ∙ ap bit
+        (same-test (not (hasChild count (col PARENT (n p) w) (own (n p) (near p) (g p) (xs p) q))) (maximum (n p) (near p) (g p) q)
+        (childless-maximum q l) (maximum-childless q l))
 
     pub mark-writable : Writable (n p) w′
     mark-writable = writable p (c .valued) (λ q l. rw (mark-is q l) (bit-low (maximum (n p) (near p) (g p) q)))

@@ -42,7 +42,8 @@ deliver-requires : tie.Need-deliver-requires
 deliver-requires c κs =
     let t = c .before .before .before .before in
     let z = sized (t .before .before .before .before .before .before) in (
-      cut-writable (t .before .before .before .before .plate-tree .ensures) (limit-fits (t .before .before .before .before .before .before)) (t .cut-values .ensures),
+      cut-writable (t .before .before .before .before .plate-tree .ensures) (limit-fits (t .before .before .before .before .before .before))
+          (t .cut-values .ensures),
       omega (arith, z .room, z .taken .long),
     )
 
