@@ -1,12 +1,9 @@
 // The operations for programs in C and Rust: one exported function for each, with the contract of the function that it calls.
 // A slice is passed as a pointer and a length. include/livukoe.h declares and describes the functions.
 ghost use mathlib.Core.Path.{_≡_};
-ghost use Prim.Native.Nat.{_*_};
 ghost use lib.ListN.{length};
-ghost use Rattle.meaning.specs.Answers.{cleanRefusal, maximaRefusal, outAfter};
-ghost use Rattle.meaning.specs.Opening.{opened, closed};
-ghost use Rattle.meaning.specs.Maxima.{marks};
-ghost use Rattle.plate_filter.specs.Operations.{Answered, NodesListed, columns};
+ghost use Rattle.meaning.specs.Answers.{outAfter};
+ghost use Rattle.plate_filter.specs.Operations.{Opened, Closed, MaximaMarked, NodesListed, columns};
 ghost use Rattle.record_parse.specs.Parse.{readOf};
 ghost use Rattle.record.specs.Writing.{WrittenRecord};
 ghost use Rattle.record.specs.Reading.{ReadRecord, CutRecord, ListedSizes};
@@ -16,7 +13,7 @@ ghost use Rattle.pgm.specs.File.{readPgm, rasterOf};
 ghost use Rattle.ink.specs.Percentage.{Percentage};
 use pgm::PgmRead;
 use plate_entries::Node;
-use plate_filter::NodeList;
+use plate_tree::NodeList;
 use record::Head;
 use record::SizeHead;
 use record::Written;
@@ -33,10 +30,7 @@ pub extern "C" fn livukoe_area_open(
     out: &mut [u8],
     work: &mut [u32],
 ) -> u32
-    ensures { λ r. ⌜ Answered
-        (cleanRefusal connectivity width height limit (length (now (image .entry))) (length (now (out .entry))) (length (now (work .entry))))
-        (opened connectivity width limit (now (image .entry)))
-        (width * height)
+    ensures { λ r. ⌜ Opened connectivity width height limit (now (image .entry))
         (now (out .entry)) (now (out .exit)) (now (work .entry)) (now (work .exit)) r ⌝ }
 {
     plate_filter::area_open(image, width, height, connectivity, limit, out, work)
@@ -53,10 +47,7 @@ pub extern "C" fn livukoe_area_close(
     out: &mut [u8],
     work: &mut [u32],
 ) -> u32
-    ensures { λ r. ⌜ Answered
-        (cleanRefusal connectivity width height limit (length (now (image .entry))) (length (now (out .entry))) (length (now (work .entry))))
-        (closed connectivity width limit (now (image .entry)))
-        (width * height)
+    ensures { λ r. ⌜ Closed connectivity width height limit (now (image .entry))
         (now (out .entry)) (now (out .exit)) (now (work .entry)) (now (work .exit)) r ⌝ }
 {
     plate_filter::area_close(image, width, height, connectivity, limit, out, work)
@@ -72,10 +63,7 @@ pub extern "C" fn livukoe_regional_maxima(
     out: &mut [u8],
     work: &mut [u32],
 ) -> u32
-    ensures { λ r. ⌜ Answered
-        (maximaRefusal connectivity width height (length (now (image .entry))) (length (now (out .entry))) (length (now (work .entry))))
-        (marks connectivity width (now (image .entry)))
-        (width * height)
+    ensures { λ r. ⌜ MaximaMarked connectivity width height (now (image .entry))
         (now (out .entry)) (now (out .exit)) (now (work .entry)) (now (work .exit)) r ⌝ }
 {
     plate_filter::regional_maxima(image, width, height, connectivity, out, work)

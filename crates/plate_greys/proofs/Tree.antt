@@ -62,8 +62,9 @@ module _ {k w h : ℕ} {f work : List ℕ} (can : Ready k w h f work) where
       greys = copied .greys;
     }
 
-    pub tree-stands : {work″ : List ℕ} {count : ℕ} → Built k w (length f) work′ work″ count → PlateTree negated k w f work work″ count
+    pub tree-stands : {work″ : List ℕ} {count : ℕ} → Built k w (length f) work′ work″ count → PlateTree negated k w h f work work″ count
     tree-stands did = record {
+      plate = record { kind = taken .kind; sizes = taken .grid; long = taken .long; greys = copied .bytes };
       frame = frame-trans (copied .frame) (did .frame);
       room = frame-room ready-room (frame-trans (copied .frame) (did .frame));
       same = did .same ∙ copied .same;

@@ -7,10 +7,7 @@ use lib.Dec.{eqb}
 use lib.ListN.{length, drop, replicate}
 use borrow.Author.Tests.{ne-eqb, lt-ltb, le-ltb}
 use Rattle.meaning.specs.Answers.{outRefusal, over, plateRefusal, workAfter, workRefusal}
-use Rattle.meaning.specs.Plate.{grey}
 use Rattle.meaning.specs.Record.{recordOf}
-use Rattle.work_columns.specs.Columns.{col}
-use Rattle.work_columns.specs.Layout.{GREY}
 use Rattle.plate_refusals.proofs.Refusals.{Listable, tree-early, tree-first, tree-later, plate-later}
 use Rattle.plate_greys.specs.Standing.{Standing}
 use Rattle.plate_greys.specs.Tree.{PlateTree, Ready}
@@ -35,25 +32,13 @@ pub wrote-ready : {k w h : ℕ} {f work : List ℕ} → Listable k w h (length f
 wrote-ready {k} {w} {h} {f} l = record { taken = plate-later k w h (length f) 0 (l .taken); room = l .space }
 
 -- nothing but 5 is left to refuse, and the tree is made
-pub record Grown (k w h : ℕ) (f work w₁ : List ℕ) (count : ℕ) : Type 0 where
+pub record TreeMade (k w h : ℕ) (f work w₁ : List ℕ) (count : ℕ) : Type 0 where
   pub listable : Listable k w h (length f) (length work)
-  pub tree : PlateTree false k w f work w₁ count
+  pub tree : PlateTree false k w h f work w₁ count
 
-module _ {k w h : ℕ} {f work w₁ : List ℕ} {count : ℕ} (g : Grown k w h f work w₁ count) where
+module _ {k w h : ℕ} {f work w₁ : List ℕ} {count : ℕ} (g : TreeMade k w h f work w₁ count) where
   plate-tree-standing : Standing k w h f w₁ count
-  plate-tree-standing =
-      let same : col GREY (length f) w₁ ≡ grey f = g .tree .same in
-      record {
-        plate = record {
-          kind = g .listable .taken .kind;
-          sizes = g .listable .taken .grid;
-          long = g .listable .taken .long;
-          greys = λ q l. rw same at (g .tree .facts .tree .greys q l);
-        };
-        room = g .tree .room;
-        same = g .tree .same;
-        facts = g .tree .facts;
-      }
+  plate-tree-standing = record { plate = g .tree .plate; room = g .tree .room; same = g .tree .same; facts = g .tree .facts }
 
   pub wrote-here : Standing k w h (greysIn (length f) w₁) w₁ count
   wrote-here = standing-here plate-tree-standing (length f) refl

@@ -7,7 +7,7 @@ use denote.Ref.{now}
 use lib.ListN.{length}
 use native.Mathlib.Omega.{arith}
 use Rattle.plate_refusals.proofs.Refusals.{Listable, tree-none}
-use Rattle.record.proofs.Wrote.{Grown, wrote-refused, wrote-ready, wrote-here, wrote-short, wrote-done}
+use Rattle.record.proofs.Wrote.{TreeMade, wrote-refused, wrote-ready, wrote-here, wrote-short, wrote-done}
 
 -- ---- what stands at each place
 abbrev start : tie.After-tree-refusal → tie.Start
@@ -26,7 +26,7 @@ abbrev begun : tie.After-plate-tree → tie.Else1
 begun c = c .before .before
 
 grown : (c : tie.After-plate-tree) → let s = start (begun c .before) .args in
-    Grown (s .connectivity) (s .width) (s .height) (now (s .image)) (now (s .work)) (c .plate-tree .last .1 .1 .1 .1 .1 .0) (c .plate-tree .result)
+    TreeMade (s .connectivity) (s .width) (s .height) (now (s .image)) (now (s .work)) (c .plate-tree .last .1 .1 .1 .1 .1 .0) (c .plate-tree .result)
 grown c = record { listable = listable (begun c); tree = c .plate-tree .ensures }
 
 -- the record is measured

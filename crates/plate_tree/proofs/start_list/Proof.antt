@@ -1,12 +1,9 @@
--- `plate_filter::start_list` meets its contract.
-use mathlib.Core.Path.{sym, _∙_}
+-- `plate_tree::start_list` meets its contract.
 use borrow.Author.Needs.{needs}
 use denote.Ref.{now}
-use lib.ListN.{length}
-use Rattle.plate_filter.proofs.start_list.Statement.{statement}
-use Rattle.plate_filter.proofs.start_list.Tie as tie
-use Rattle.plate_refusals.proofs.Refusals.{plate-later, tree-none}
-use Rattle.plate_filter.proofs.NodeLists.{started-done, started-refused, started-short}
+use Rattle.plate_tree.proofs.start_list.Statement.{statement}
+use Rattle.plate_tree.proofs.start_list.Tie as tie
+use Rattle.plate_tree.proofs.Starting.{started-done, started-ready, started-refused, started-short}
 
 tree-refusal-requires : tie.Need-tree-refusal-requires
 tree-refusal-requires c κs = search needs
@@ -16,16 +13,16 @@ refused-requires c κs = search needs
 
 returns : tie.Need-returns
 returns c =
-    let b = c .before .before .before .before .before in
-    let s = b .args in
+    let s = c .before .before .before .before .before .args in
     rw (c .refused .ensures .0, c .refused .ensures .1)
-    (started-refused (s .connectivity) (s .width) (s .height) (s .places) (c .before .before .tree-refusal .ensures) (c .before .if1 .taken))
+    (started-refused (s .connectivity) (s .width) (s .height) (now (s .image)) (now (s .work)) (s .places)
+    (c .before .before .tree-refusal .ensures) (c .before .if1 .taken))
 
 plate-tree-requires : tie.Need-plate-tree-requires
 plate-tree-requires c κs =
     let s = c .before .before .before .before .before .args in
-    let z = tree-none (s .connectivity) (s .width) (s .height) (length (now (s .image))) (length (now (s .work))) (sym (c .before .before .tree-refusal .ensures) ∙ c .before .if1 .left) in
-    record { taken = plate-later (s .connectivity) (s .width) (s .height) (length (now (s .image))) 0 (z .taken); room = z .space }
+    started-ready (s .connectivity) (s .width) (s .height) (now (s .image)) (now (s .work)) (s .places)
+    (c .before .before .tree-refusal .ensures) (c .before .if1 .left)
 
 clear-requires : tie.Need-clear-requires
 clear-requires c κs = search needs
@@ -43,8 +40,8 @@ returns-2 c =
     let e = p .before .before in
     let s = e .before .before .before .before .args in
     rw (c .refused2 .ensures .0, c .refused2 .ensures .1)
-    (started-short (s .connectivity) (s .width) (s .height) (s .places) (e .before .tree-refusal .ensures) (e .if1 .left) (p .plate-tree .ensures)
-    (t .if2 .taken) (c .before .before .before .clear .ensures))
+    (started-short (s .connectivity) (s .width) (s .height) (now (s .image)) (now (s .work)) (s .places)
+    (e .before .tree-refusal .ensures) (e .if1 .left) (p .plate-tree .ensures) (t .if2 .taken) (c .before .before .before .clear .ensures))
 
 cast-t17 : tie.Need-cast-t17
 cast-t17 c = search needs
@@ -57,7 +54,8 @@ returns-3 c =
     let p = c .before .before .before in
     let e = p .before .before in
     let s = e .before .before .before .before .args in
-    started-done (s .connectivity) (s .width) (s .height) (s .places) (e .before .tree-refusal .ensures) (e .if1 .left) (p .plate-tree .ensures) (c .if2 .left)
+    started-done (s .connectivity) (s .width) (s .height) (now (s .image)) (now (s .work)) (s .places)
+    (e .before .tree-refusal .ensures) (e .if1 .left) (p .plate-tree .ensures) (c .if2 .left)
 
 pub start-list-spec : {M : Type 1} → statement M
 start-list-spec =
