@@ -8,6 +8,10 @@ use Rattle.meaning.specs.Sets.{pick, sum, table}
 use Rattle.work_columns.specs.Columns.{Room, col}
 use Rattle.work_columns.specs.Layout.{AREA, LEVEL, PARENT}
 
+-- m zeros
+abbrev pub zeros : ℕ → List ℕ
+zeros m = table m (λ (i : ℕ). 0)
+
 -- what the first k nodes add at a, where node j adds v j at c j
 unfoldable pub tally : (c v : ℕ → ℕ) → ℕ → ℕ → ℕ
 unfolding sum
