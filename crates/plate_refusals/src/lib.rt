@@ -21,7 +21,7 @@ fn side_fits(side: u32) -> bool
 }
 
 // Are the width, the height and their product, the pixels, within the grid?
-fn grid_fits(width: u32, height: u32) -> bool
+pub fn grid_fits(width: u32, height: u32) -> bool
     ensures { λ r. ⌜ r ≡ gridFits width height ⌝ }
 {
     if side_fits(width) {
