@@ -1,33 +1,63 @@
-# The README's commands. `rt` is the Rattle kit's command; cargo builds without a network.
-.PHONY: all library demo test gate check reference peers bench clean
+# The README's commands: `make demo` and `make test` each do their own set-up. `rt` is the Rattle kit's command; cargo
+# builds without a network.
+.PHONY: all library shared demo test gate check reference peers bench install uninstall clean tools
 
 HOST := --offline --manifest-path host/Cargo.toml
 SECOND := --offline --manifest-path reference/Cargo.toml
 DEMO := target/demo
+# specks of up to 0.1 mm at 600 dots an inch: README, Choosing the limit
+DEMO_LIMIT := 17
 # the greatest number of pixels in `make bench`, for the proved functions and for the peers
 BENCH_PIXELS ?= 16777216
 PEER_PIXELS ?= 4194304
 
-# the command-line tool: bin/livukoe
-all: library
+# where `make install` puts things, below DESTDIR where that is given
+PREFIX ?= /usr/local
+BINDIR ?= $(PREFIX)/bin
+LIBDIR ?= $(PREFIX)/lib
+INCLUDEDIR ?= $(PREFIX)/include
+MANDIR ?= $(PREFIX)/share/man
+COMPLETIONDIR ?= $(PREFIX)/share/bash-completion/completions
+# the version has one place; the shared library's soname has its first number
+VERSION := $(shell sed -n 's/^version = "\(.*\)"/\1/p' host/Cargo.toml)
+SONAME := liblivukoe.so.$(firstword $(subst ., ,$(VERSION)))
+# what is installed
+ARCHIVE := target/staticlib/liblivukoe.a
+SHARED := target/shared/liblivukoe.so.$(VERSION)
+TOOL := bin/livukoe
+
+# the command-line tool, bin/livukoe, and the libraries for C
+all: library shared
 	cargo build $(HOST) --release --quiet
 	mkdir -p bin
 	cp host/target/release/livukoe host/target/release/livukoe-demo bin/
 
 # the C functions, proved: target/staticlib/liblivukoe.a, for include/livukoe.h
-library:
+library: tools
 	rt staticlib livukoe
 
-# takes the specks off a relief plate, and leaves docs/before.png and docs/after.png
+# the same functions, and no other name, as a shared library: the archive's code is position independent
+shared: library
+	@$(MAKE) --no-print-directory $(SHARED)
+
+$(SHARED): $(ARCHIVE) install/livukoe.map
+	mkdir -p $(@D)
+	cc -shared -o $@ -Wl,-soname,$(SONAME) -Wl,--version-script=install/livukoe.map -Wl,-z,text -Wl,-z,noexecstack \
+	    -Wl,--whole-archive $(ARCHIVE) -Wl,--no-whole-archive
+
+# takes the dust off a relief map, and leaves docs/before.png and docs/after.png
 demo: all
+	rm -rf $(DEMO)
 	mkdir -p $(DEMO)
 	bin/livukoe-demo relief $(DEMO)/before.pgm
-	bin/livukoe open --limit 40 $(DEMO)/before.pgm $(DEMO)/opened.pgm
-	bin/livukoe close --limit 40 $(DEMO)/opened.pgm $(DEMO)/after.pgm
+	bin/livukoe open --limit $(DEMO_LIMIT) $(DEMO)/before.pgm $(DEMO)/opened.pgm
+	bin/livukoe close --limit $(DEMO_LIMIT) $(DEMO)/opened.pgm $(DEMO)/after.pgm
 	bin/livukoe-demo png $(DEMO)/before.pgm docs/before.png
 	bin/livukoe-demo png $(DEMO)/after.pgm docs/after.png
+	@echo "The map with dust on it is docs/before.png, the cleaned one docs/after.png;"
+	@echo "as plate files they are $(DEMO)/before.pgm and $(DEMO)/after.pgm."
 
-# the proved functions against the second program, on plates, files and records by chance, and the tool
+# the proved functions against the second program, on plates, files and records by chance; the tool; what is installed
 test: library reference
 	cargo test $(HOST) --quiet
 
@@ -55,6 +85,39 @@ peers:
 # writes docs/BENCHMARKS.md and docs/benchmarks.svg
 bench: library
 	cargo bench $(HOST) --bench peers -- --pixels $(BENCH_PIXELS) --peer-pixels $(PEER_PIXELS)
+
+# puts what `make` has built where others find it, and builds only what is missing
+install: $(ARCHIVE) $(SHARED) $(TOOL)
+	install -d $(addprefix $(DESTDIR),$(BINDIR) $(LIBDIR)/pkgconfig $(INCLUDEDIR) $(MANDIR)/man1 $(COMPLETIONDIR))
+	install -m 755 $(TOOL) $(DESTDIR)$(BINDIR)/livukoe
+	install -m 644 $(ARCHIVE) $(DESTDIR)$(LIBDIR)/liblivukoe.a
+	install -m 755 $(SHARED) $(DESTDIR)$(LIBDIR)/liblivukoe.so.$(VERSION)
+	ln -sf liblivukoe.so.$(VERSION) $(DESTDIR)$(LIBDIR)/$(SONAME)
+	ln -sf $(SONAME) $(DESTDIR)$(LIBDIR)/liblivukoe.so
+	install -m 644 include/livukoe.h $(DESTDIR)$(INCLUDEDIR)/livukoe.h
+	sed -e 's,@PREFIX@,$(PREFIX),' -e 's,@LIBDIR@,$(LIBDIR:$(PREFIX)/%=$${prefix}/%),' \
+	    -e 's,@INCLUDEDIR@,$(INCLUDEDIR:$(PREFIX)/%=$${prefix}/%),' -e 's,@VERSION@,$(VERSION),' \
+	    install/livukoe.pc.in >$(DESTDIR)$(LIBDIR)/pkgconfig/livukoe.pc
+	chmod 644 $(DESTDIR)$(LIBDIR)/pkgconfig/livukoe.pc
+	install -m 644 install/livukoe.1 $(DESTDIR)$(MANDIR)/man1/livukoe.1
+	install -m 644 install/livukoe.bash $(DESTDIR)$(COMPLETIONDIR)/livukoe
+
+uninstall:
+	rm -f $(addprefix $(DESTDIR),$(BINDIR)/livukoe $(INCLUDEDIR)/livukoe.h $(MANDIR)/man1/livukoe.1 \
+	    $(COMPLETIONDIR)/livukoe $(LIBDIR)/pkgconfig/livukoe.pc \
+	    $(addprefix $(LIBDIR)/,liblivukoe.a liblivukoe.so $(SONAME) liblivukoe.so.$(VERSION)))
+
+$(ARCHIVE):
+	rt staticlib livukoe
+
+$(TOOL):
+	@$(MAKE) --no-print-directory all
+
+# says what is missing on this machine
+tools:
+	@command -v rt >/dev/null || { echo "rt, the command of the Rattle kit, is not on the PATH"; exit 1; }
+	@command -v cargo >/dev/null || { echo "cargo, of Rust, is not on the PATH"; exit 1; }
+	@command -v cc >/dev/null || { echo "cc, a C compiler, is not on the PATH"; exit 1; }
 
 clean:
 	rm -rf target bin reference/target host/target

@@ -1,7 +1,8 @@
 /* Livukoe: verified cleaning of grey images, for C.
  *
- * Link with target/staticlib/liblivukoe.a, which `make` builds. Each function calls one proved function and has its
- * contract (crates/livukoe/src/lib.rt).
+ * Link with -llivukoe where it is installed (`pkg-config --cflags --libs livukoe`), or with the archive that `make`
+ * builds, target/staticlib/liblivukoe.a. Each function of the library calls one proved function and has its contract
+ * (crates/livukoe/src/lib.rt).
  *
  * A plate is width x height greys, one byte each, row by row from the top left. Width and height are 1 to 32768, their
  * product, the pixels, at most 16777216. Connectivity is 4 (shared side) or 8 (shared side or corner).
@@ -18,7 +19,24 @@
  * afterwards, except that refusal 6 and those that come ahead of it leave all of it as it was.
  *
  * The functions allocate nothing, keep nothing between calls, and may run in several threads at once on buffers of
- * their own. */
+ * their own.
+ *
+ * Each runs in LIVUKOE_STACK_BYTES of stack. No proof speaks of the stack: what each function needs was measured, with
+ * the library as it is built (x86-64, -O3), on plates, files and records that were chosen to make it deep
+ * (host/tests/c/stack.c). In bytes, rounded up to whole 1024:
+ *
+ *     livukoe_area_open        9216
+ *     livukoe_area_close       9216
+ *     livukoe_regional_maxima  9216
+ *     livukoe_node_list        9216
+ *     livukoe_node_entries     9216
+ *     livukoe_read_pgm         7168
+ *     livukoe_write_record     9216
+ *     livukoe_read_record      9216
+ *     livukoe_cut_record       9216
+ *     livukoe_size_list        9216
+ *     livukoe_write_cut_list   9216
+ *     livukoe_ink_percentage   1024 */
 #ifndef LIVUKOE_H
 #define LIVUKOE_H
 
@@ -28,6 +46,18 @@
 #ifdef __cplusplus
 extern "C" {
 #endif
+
+/* The stack that each function runs in, as measured. */
+#define LIVUKOE_STACK_BYTES 16384
+
+/* How long `work` must be for so many pixels, in numbers. */
+#define LIVUKOE_WORK_NUMBERS(pixels) (8 * (size_t)(pixels))
+
+/* How long an output must be for the record of so many pixels, whatever they are, in bytes: a field of at most 2^24 has
+ * at most 4 bytes, and one of at most 255 at most 2. The head has width and height (3 bytes each), connectivity (1) and
+ * node count (4), the root its level (2) and area (4); each further node, and there are fewer of them than pixels, the
+ * step to its parent (4), its rise (2) and its area (4); each pixel its own node (4). */
+#define LIVUKOE_RECORD_BYTES(pixels) (14 * (size_t)(pixels) + 7)
 
 /* Refusals. Each function names those that it gives, in the order in which it looks. */
 enum livukoe_refusal {
@@ -48,6 +78,31 @@ enum livukoe_refusal {
     LIVUKOE_RECORD_LONG = 23,   /* bytes are left over after the last field */
     LIVUKOE_NOT_CANONICAL = 24  /* the bytes differ from the record of the plate that they spell */
 };
+
+/* The text of a refusal. */
+static inline const char *livukoe_refusal_text(uint32_t refusal)
+{
+    switch (refusal) {
+    case 0: return "not refused";
+    case LIVUKOE_CONNECTIVITY: return "the connectivity is neither 4 nor 8";
+    case LIVUKOE_GRID: return "the width or the height is not from 1 to 32768, or there are more than 16777216 pixels";
+    case LIVUKOE_PLATE_LENGTH: return "the number of greys is not the width times the height";
+    case LIVUKOE_LIMIT: return "the limit is 0 or above the number of pixels";
+    case LIVUKOE_OUTPUT_SHORT: return "an output is too short for the answer";
+    case LIVUKOE_WORK_SHORT: return "the work space has fewer than 8 numbers for each pixel";
+    case LIVUKOE_LETTERS: return "the plate file does not begin with P5";
+    case LIVUKOE_HEADER: return "the plate file's header lacks a number or a gap, or has one that is malformed";
+    case LIVUKOE_GREATEST_GREY: return "the plate file's greatest grey is not 255";
+    case LIVUKOE_RASTER_SHORT: return "the plate file ends before its last pixel";
+    case LIVUKOE_RASTER_LONG: return "the plate file has bytes behind its last pixel";
+    case LIVUKOE_FIELD_UNENDED: return "the record ends inside a field";
+    case LIVUKOE_FIELD_FORM: return "a field of the record is not in its shortest form, or is too large";
+    case LIVUKOE_FIELD_RANGE: return "a field of the record is outside its range";
+    case LIVUKOE_RECORD_LONG: return "the record has bytes behind its last field";
+    case LIVUKOE_NOT_CANONICAL: return "the record is not the one that its plate has";
+    default: return "no refusal has this number";
+    }
+}
 
 /* Area opening: each pixel gets the greatest t for which a connected set of at least `limit` pixels contains it, with
  * no grey below t, so that light patches of fewer pixels go. Refusals 1, 2, 3, 4, 5, 6. Returns the refusal. */
@@ -109,7 +164,7 @@ struct livukoe_record_length {
     size_t length; /* of the record, in bytes */
 };
 
-/* Writes the record of a plate with its connectivity. 14 bytes for each pixel, and 11 more, are always enough.
+/* Writes the record of a plate with its connectivity. LIVUKOE_RECORD_BYTES(pixels) are always enough.
  * Refusals 1, 2, 3, 6, 5. */
 struct livukoe_record_length livukoe_write_record(
     const uint8_t *image, size_t image_length, uint32_t width, uint32_t height, uint32_t connectivity,
@@ -156,9 +211,9 @@ struct livukoe_joint {
 };
 
 /* Writes the record of a plate, cuts it at a limit and lists its sizes, with the exact bytes passed on: `bytes` is as
- * livukoe_write_record leaves it, `out` as livukoe_cut_record, the tables as livukoe_size_list. Refusals: 1, 2, 3, 4, 5
- * and 6 as for opening; then 5 when either table has fewer than pixels - 1 places; then 5 when the record needs more
- * bytes than were lent, which leaves the work space zeroed. Nothing is written on a refusal. */
+ * livukoe_write_record leaves it, `out` as livukoe_cut_record, the tables as livukoe_size_list. Refusals 1, 2, 3, 4;
+ * then 5 when `out` is shorter than the pixels or either table has fewer than pixels - 1 places; then 6; then 5 when
+ * the record needs more bytes than were lent, which leaves the work space zeroed. No output is written on a refusal. */
 struct livukoe_joint livukoe_write_cut_list(
     const uint8_t *image, size_t image_length, uint32_t width, uint32_t height, uint32_t connectivity, uint32_t limit,
     uint8_t *bytes, size_t bytes_length, uint8_t *out, size_t out_length, uint32_t *counts, size_t counts_length,

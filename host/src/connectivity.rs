@@ -1,9 +1,21 @@
 //! The two kinds of connectivity.
 
 use std::fmt;
+use std::str::FromStr;
+
+use crate::refusal::Refusal;
 
 /// Which pixels touch.
+///
+/// ```
+/// use livukoe::{Connectivity, Refusal};
+///
+/// assert_eq!("8".parse(), Ok(Connectivity::Eight));
+/// assert_eq!(Connectivity::try_from(4), Ok(Connectivity::Four));
+/// assert_eq!(Connectivity::try_from(5), Err(Refusal::Connectivity));
+/// ```
 #[derive(Clone, Copy, Debug, Default, PartialEq, Eq, Hash)]
+#[non_exhaustive]
 pub enum Connectivity {
     /// Pixels that share a side.
     #[default]
@@ -13,13 +25,14 @@ pub enum Connectivity {
 }
 
 impl Connectivity {
+    /// Every connectivity, by number of neighbours rising.
+    pub const ALL: [Connectivity; 2] = [Connectivity::Four, Connectivity::Eight];
+
     /// The connectivity with this number of neighbours, 4 or 8.
     pub fn from_number(number: u32) -> Option<Connectivity> {
-        match number {
-            4 => Some(Connectivity::Four),
-            8 => Some(Connectivity::Eight),
-            _ => None,
-        }
+        Connectivity::ALL
+            .into_iter()
+            .find(|connectivity| connectivity.number() == number)
     }
 
     /// The number of neighbours.
@@ -28,6 +41,27 @@ impl Connectivity {
             Connectivity::Four => 4,
             Connectivity::Eight => 8,
         }
+    }
+}
+
+/// By the number of neighbours; another number is refusal 1.
+impl TryFrom<u32> for Connectivity {
+    type Error = Refusal;
+
+    fn try_from(number: u32) -> Result<Connectivity, Refusal> {
+        Connectivity::from_number(number).ok_or(Refusal::Connectivity)
+    }
+}
+
+/// By the digits of the number of neighbours, and nothing else; another text is refusal 1.
+impl FromStr for Connectivity {
+    type Err = Refusal;
+
+    fn from_str(text: &str) -> Result<Connectivity, Refusal> {
+        Connectivity::ALL
+            .into_iter()
+            .find(|connectivity| connectivity.to_string() == text)
+            .ok_or(Refusal::Connectivity)
     }
 }
 

@@ -5,7 +5,6 @@ use crate::plate::Plate;
 use crate::record::Record;
 use crate::refusal::Refusal;
 use crate::sizes::SizeList;
-use crate::work_space;
 
 /// What [`Plate::record_cut_sizes`] gives: the cut and the sizes are those of the very bytes of the record.
 #[derive(Clone, Debug, PartialEq, Eq)]
@@ -16,8 +15,12 @@ pub struct Joint {
 }
 
 impl Joint {
-    pub(crate) fn of(image: Image, limit: u32) -> Result<Joint, Refusal> {
-        let pixels = image.greys.len();
+    pub(crate) fn of(
+        image: Image,
+        limit: u32,
+        pixels: usize,
+        work: &mut [u32],
+    ) -> Result<Joint, Refusal> {
         let mut bytes = vec![0; Record::most_bytes(pixels)];
         let mut out = vec![0; pixels];
         let (mut counts, mut losses) = SizeList::tables(pixels);
@@ -27,7 +30,7 @@ impl Joint {
             counts: &mut counts,
             losses: &mut losses,
         };
-        let answer = lent::write_cut_list(image, limit, outputs, &mut work_space(pixels));
+        let answer = lent::write_cut_list(image, limit, outputs, work);
         Refusal::check(answer.refusal)?;
         let head = SizeHead {
             refusal: 0,

@@ -6,8 +6,9 @@
 //! limit and turned into a [`SizeList`].
 //!
 //! Every answer comes from a function that is proved against its definition. This crate lends those functions buffers
-//! of the right sizes and turns their refusals into [`Refusal`]; it checks nothing a second time. [`lent`] has the
-//! functions over buffers of your own.
+//! of the right sizes and turns their refusals into [`Refusal`]. It checks nothing a second time, except that a record
+//! that is too short for the pixels that it promises is refused ahead of lending it their space. A [`WorkSpace`] serves
+//! many operations; [`lent`] has the functions over buffers of your own.
 //!
 //! ```
 //! use livukoe::{Connectivity, Plate};
@@ -19,6 +20,7 @@
 //! ```
 
 mod connectivity;
+mod fields;
 mod joint;
 pub mod lent;
 pub mod pictures;
@@ -29,13 +31,17 @@ mod sizes;
 mod work;
 
 pub use connectivity::Connectivity;
+pub use fields::{Fault, Head};
 pub use joint::Joint;
 pub use lent::{ink_percentage, Node};
 pub use plate::Plate;
 pub use record::Record;
-pub use refusal::Refusal;
+pub use refusal::{Refusal, UnknownRefusal};
 pub use sizes::{Size, SizeList};
-pub use work::work_space;
+pub use work::{work_space, WorkSpace};
+
+/// The greatest width and height of a plate.
+pub const MAX_SIDE: u32 = 32_768;
 
 /// The greatest number of pixels of a plate.
 pub const MAX_PIXELS: usize = 16_777_216;

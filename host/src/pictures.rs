@@ -1,6 +1,9 @@
 //! Generated plates, for the demonstration, the tests and the benchmarks. The same arguments give the same plate.
 
+mod relief;
+
 use crate::Plate;
+pub use relief::specked_relief;
 
 /// The names of the pictures.
 pub const KINDS: [&str; 6] = [
@@ -21,7 +24,7 @@ pub fn picture(kind: &str, width: u32, height: u32) -> Plate {
     let (columns, rows) = (width as usize, height as usize);
     let greys = match kind {
         "noise" => noise(columns * rows),
-        "terrain" => terrain(columns, rows, 1),
+        "terrain" => terrain(columns, rows),
         "ramp" => by_pixel(columns, rows, |x, y| {
             ((x + y) * 255 / (columns + rows - 2).max(1)) as u8
         }),
@@ -31,33 +34,6 @@ pub fn picture(kind: &str, width: u32, height: u32) -> Plate {
         _ => panic!("no picture is called {kind}"),
     };
     Plate::new(width, height, greys)
-}
-
-/// A relief of smooth hills with light and dark specks on it, each of at most 16 pixels, and three light patches of 100.
-pub fn specked_relief(width: u32, height: u32) -> Plate {
-    let (columns, rows) = (width as usize, height as usize);
-    let hills = terrain(columns, rows, 12);
-    let mut greys: Vec<u8> = hills.iter().map(|&grey| 48 + grey / 8 * 5).collect();
-    let mut state = SEED;
-    for speck in 0..columns * rows / 250 {
-        let x = next(&mut state) as usize % columns;
-        let y = next(&mut state) as usize % rows;
-        let side = 1 + next(&mut state) as usize % 4;
-        fill_square(&mut greys, columns, (x, y), side, 255 * (speck % 2) as u8);
-    }
-    for patch in 1..4 {
-        let at = (columns * patch / 4, rows * (5 - patch) / 5);
-        fill_square(&mut greys, columns, at, 10, 255);
-    }
-    Plate::new(width, height, greys)
-}
-
-/// Fills the part of a square that lies on the plate.
-fn fill_square(greys: &mut [u8], columns: usize, (x, y): (usize, usize), side: usize, grey: u8) {
-    for row in greys.chunks_mut(columns).skip(y).take(side) {
-        let end = columns.min(x + side);
-        row[x..end].fill(grey);
-    }
 }
 
 fn by_pixel(width: usize, height: usize, grey: impl Fn(usize, usize) -> u8) -> Vec<u8> {
@@ -97,12 +73,12 @@ fn noise(pixels: usize) -> Vec<u8> {
     (0..pixels).map(|_| next(&mut state) as u8).collect()
 }
 
-/// Hills: noise on finer and finer grids, each weaker than the last, down to cells of `finest` pixels.
-fn terrain(width: usize, height: usize, finest: usize) -> Vec<u8> {
+/// Hills: noise on finer and finer grids, each weaker than the last, down to cells of one pixel.
+fn terrain(width: usize, height: usize) -> Vec<u8> {
     let mut heights = vec![0f32; width * height];
     let mut cell = (width.max(height) / 2).max(2);
     let mut strength = 1f32;
-    while cell >= finest.max(1) {
+    while cell >= 1 {
         add_octave(&mut heights, width, cell, strength);
         cell /= 2;
         strength *= 0.55;

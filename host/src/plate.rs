@@ -4,7 +4,8 @@ use crate::joint::Joint;
 use crate::lent::{self, Image, Node};
 use crate::record::Record;
 use crate::refusal::Refusal;
-use crate::{work_space, Connectivity};
+use crate::work::{zeroed_nodes, WorkSpace};
+use crate::{Connectivity, MAX_PIXELS};
 
 /// A grey image: greys row by row from the top left, 0 for full ink to 255 for bare paper.
 ///
@@ -38,9 +39,25 @@ impl Plate {
         &self.greys
     }
 
+    /// The greys, which are not copied.
+    ///
+    /// ```
+    /// let plate = livukoe::Plate::new(2, 1, vec![7, 9]);
+    /// assert_eq!(plate.into_greys(), [7, 9]);
+    /// ```
+    pub fn into_greys(self) -> Vec<u8> {
+        self.greys
+    }
+
     /// Reads a plate file, the binary form of Netpbm's PGM with the greatest grey 255.
+    ///
+    /// ```
+    /// let plate = livukoe::Plate::from_pgm(b"P5 2 1 255\n\x07\x09")?;
+    /// assert_eq!((plate.width(), plate.height()), (2, 1));
+    /// # Ok::<(), livukoe::Refusal>(())
+    /// ```
     pub fn from_pgm(file: &[u8]) -> Result<Plate, Refusal> {
-        let mut greys = vec![0; file.len()]; // each pixel has a byte in the file
+        let mut greys = vec![0; file.len().min(MAX_PIXELS)]; // each pixel has a byte in the file
         let head = lent::read_pgm(file, &mut greys);
         Refusal::check(head.refusal)?;
         greys.truncate(head.width as usize * head.height as usize);
@@ -54,33 +71,27 @@ impl Plate {
 
     /// The area opening at a limit: light patches of fewer pixels are taken away.
     pub fn area_open(&self, connectivity: Connectivity, limit: u32) -> Result<Plate, Refusal> {
-        self.answered(|out, work| lent::area_open(self.image(connectivity), limit, out, work))
+        WorkSpace::new().area_open(self, connectivity, limit)
     }
 
     /// The area closing at a limit: dark patches of fewer pixels are taken away.
     pub fn area_close(&self, connectivity: Connectivity, limit: u32) -> Result<Plate, Refusal> {
-        self.answered(|out, work| lent::area_close(self.image(connectivity), limit, out, work))
+        WorkSpace::new().area_close(self, connectivity, limit)
     }
 
     /// The regional maxima: 1 inside one, 0 elsewhere.
     pub fn regional_maxima(&self, connectivity: Connectivity) -> Result<Plate, Refusal> {
-        self.answered(|out, work| lent::regional_maxima(self.image(connectivity), out, work))
+        WorkSpace::new().regional_maxima(self, connectivity)
     }
 
     /// The nodes of the component tree (max-tree), by level rising, then anchor rising. The first is the whole plate.
     pub fn nodes(&self, connectivity: Connectivity) -> Result<Vec<Node>, Refusal> {
-        let pixels = self.greys.len(); // there are at most as many nodes
-        let mut nodes = vec![Node::default(); pixels];
-        let image = self.image(connectivity);
-        let answer = lent::node_entries(image, &mut nodes, &mut work_space(pixels));
-        Refusal::check(answer.refusal)?;
-        nodes.truncate(answer.count as usize);
-        Ok(nodes)
+        WorkSpace::new().nodes(self, connectivity)
     }
 
     /// The record of this plate with a connectivity.
     pub fn record(&self, connectivity: Connectivity) -> Result<Record, Refusal> {
-        Record::of(self.image(connectivity))
+        WorkSpace::new().record(self, connectivity)
     }
 
     /// The record of this plate, its cut at a limit and its size list, by one call.
@@ -89,18 +100,7 @@ impl Plate {
         connectivity: Connectivity,
         limit: u32,
     ) -> Result<Joint, Refusal> {
-        Joint::of(self.image(connectivity), limit)
-    }
-
-    /// The plate of this size that an operation writes.
-    fn answered(
-        &self,
-        operation: impl FnOnce(&mut [u8], &mut [u32]) -> u32,
-    ) -> Result<Plate, Refusal> {
-        let pixels = self.greys.len();
-        let mut out = vec![0; pixels];
-        Refusal::check(operation(&mut out, &mut work_space(pixels)))?;
-        Ok(Plate::new(self.width, self.height, out))
+        WorkSpace::new().record_cut_sizes(self, connectivity, limit)
     }
 
     fn image(&self, connectivity: Connectivity) -> Image<'_> {
@@ -110,5 +110,94 @@ impl Plate {
             height: self.height,
             connectivity: connectivity.number(),
         }
+    }
+
+    /// How many places an answer on this plate has, one for each pixel.
+    fn places(&self) -> usize {
+        self.greys.len().min(MAX_PIXELS)
+    }
+}
+
+/// The operations on plates.
+impl WorkSpace {
+    /// See [`Plate::area_open`].
+    pub fn area_open(
+        &mut self,
+        plate: &Plate,
+        connectivity: Connectivity,
+        limit: u32,
+    ) -> Result<Plate, Refusal> {
+        self.answered(plate, connectivity, |image, out, work| {
+            lent::area_open(image, limit, out, work)
+        })
+    }
+
+    /// See [`Plate::area_close`].
+    pub fn area_close(
+        &mut self,
+        plate: &Plate,
+        connectivity: Connectivity,
+        limit: u32,
+    ) -> Result<Plate, Refusal> {
+        self.answered(plate, connectivity, |image, out, work| {
+            lent::area_close(image, limit, out, work)
+        })
+    }
+
+    /// See [`Plate::regional_maxima`].
+    pub fn regional_maxima(
+        &mut self,
+        plate: &Plate,
+        connectivity: Connectivity,
+    ) -> Result<Plate, Refusal> {
+        self.answered(plate, connectivity, |image, out, work| {
+            lent::regional_maxima(image, out, work)
+        })
+    }
+
+    /// See [`Plate::nodes`].
+    pub fn nodes(
+        &mut self,
+        plate: &Plate,
+        connectivity: Connectivity,
+    ) -> Result<Vec<Node>, Refusal> {
+        let places = plate.places(); // there are at most as many nodes
+        let mut nodes = zeroed_nodes(places);
+        let image = plate.image(connectivity);
+        let answer = lent::node_entries(image, &mut nodes, self.lend(places));
+        Refusal::check(answer.refusal)?;
+        nodes.truncate(answer.count as usize);
+        nodes.shrink_to_fit();
+        Ok(nodes)
+    }
+
+    /// See [`Plate::record`].
+    pub fn record(&mut self, plate: &Plate, connectivity: Connectivity) -> Result<Record, Refusal> {
+        let places = plate.places();
+        Record::of(plate.image(connectivity), places, self.lend(places))
+    }
+
+    /// See [`Plate::record_cut_sizes`].
+    pub fn record_cut_sizes(
+        &mut self,
+        plate: &Plate,
+        connectivity: Connectivity,
+        limit: u32,
+    ) -> Result<Joint, Refusal> {
+        let places = plate.places();
+        Joint::of(plate.image(connectivity), limit, places, self.lend(places))
+    }
+
+    /// The plate of a plate's size that an operation writes.
+    fn answered(
+        &mut self,
+        plate: &Plate,
+        connectivity: Connectivity,
+        operation: impl FnOnce(Image, &mut [u8], &mut [u32]) -> u32,
+    ) -> Result<Plate, Refusal> {
+        let (image, places) = (plate.image(connectivity), plate.places());
+        let mut out = vec![0; places];
+        Refusal::check(operation(image, &mut out, self.lend(places)))?;
+        Ok(Plate::new(plate.width, plate.height, out))
     }
 }

@@ -1,15 +1,19 @@
 //! Records: the canonical description of a plate with its connectivity.
 
+use crate::fields::{self, Fault, Head};
 use crate::lent::{self, Image, RecordHead};
 use crate::plate::Plate;
 use crate::refusal::Refusal;
 use crate::sizes::SizeList;
-use crate::{work_space, MAX_PIXELS};
+use crate::work::WorkSpace;
 
 /// The most bytes that a record has: a node has a step (4), a rise (2) and an area (4), a pixel has its own node (4).
 const BYTES_A_PIXEL: usize = 14;
 /// Width (3), height (3), connectivity (1), node count (4); the root's fields fit a node's.
 const BYTES_AHEAD: usize = 11;
+
+/// The fewest bytes that a record has beside one for each pixel: head (4), root level and root area.
+const LEAST_BYTES: usize = 6;
 
 /// The bytes of a record. They may be damaged: each operation refuses what is not the record of a plate.
 #[derive(Clone, Debug, PartialEq, Eq)]
@@ -27,10 +31,22 @@ impl Record {
         &self.bytes
     }
 
-    pub(crate) fn of(image: Image) -> Result<Record, Refusal> {
-        let pixels = image.greys.len();
+    /// The bytes, which are not copied.
+    ///
+    /// ```
+    /// use livukoe::{Connectivity, Plate};
+    ///
+    /// let record = Plate::new(1, 1, vec![7]).record(Connectivity::Four)?;
+    /// assert_eq!(record.into_bytes(), [1, 1, 4, 1, 7, 1, 0]);
+    /// # Ok::<(), livukoe::Refusal>(())
+    /// ```
+    pub fn into_bytes(self) -> Vec<u8> {
+        self.bytes
+    }
+
+    pub(crate) fn of(image: Image, pixels: usize, work: &mut [u32]) -> Result<Record, Refusal> {
         let mut bytes = vec![0; Record::most_bytes(pixels)];
-        let answer = lent::write_record(image, &mut bytes, &mut work_space(pixels));
+        let answer = lent::write_record(image, &mut bytes, work);
         Refusal::check(answer.refusal)?;
         Ok(Record::written(bytes, answer.length))
     }
@@ -47,50 +63,97 @@ impl Record {
         Record { bytes }
     }
 
+    /// What the record's first four fields say: width, height, connectivity and number of nodes. The rest is not looked
+    /// at, so that a damaged record may have a head too.
+    ///
+    /// ```
+    /// use livukoe::{Connectivity, Record};
+    ///
+    /// let head = Record::from_bytes(vec![4, 3, 8, 2]).head()?;
+    /// assert_eq!((head.width, head.height, head.nodes), (4, 3, 2));
+    /// assert_eq!(head.connectivity, Connectivity::Eight);
+    /// # Ok::<(), livukoe::Refusal>(())
+    /// ```
+    pub fn head(&self) -> Result<Head, Refusal> {
+        fields::head(&self.bytes).map_err(|fault| fault.refusal)
+    }
+
+    /// The first field that is unended, malformed or outside its range, for a message that says where a record is
+    /// damaged. It is found by a walk of this crate's own; whether a record is one is decided by the operations.
+    ///
+    /// ```
+    /// let fault = livukoe::Record::from_bytes(vec![4, 0]).fault().expect("a fault");
+    /// assert_eq!(fault.to_string(), "byte 1: the height is 0; 1 to 32768");
+    /// ```
+    pub fn fault(&self) -> Option<Fault> {
+        fields::length(&self.bytes).err()
+    }
+
+    /// How many bytes there are after the last field; none where a field is at fault.
+    pub fn left_over(&self) -> usize {
+        fields::length(&self.bytes).map_or(0, |length| self.bytes.len() - length)
+    }
+
     /// The plate that the record describes.
     pub fn plate(&self) -> Result<Plate, Refusal> {
-        self.answered(|out, work| lent::read_record(&self.bytes, out, work))
+        WorkSpace::new().plate(self)
     }
 
     /// The cut at a limit: the area opening of the record's plate, under its connectivity.
     pub fn cut(&self, limit: u32) -> Result<Plate, Refusal> {
-        self.answered(|out, work| lent::cut_record(&self.bytes, limit, out, work))
+        WorkSpace::new().cut(self, limit)
     }
 
     /// The size list (pattern spectrum).
     pub fn sizes(&self) -> Result<SizeList, Refusal> {
-        SizeList::of(&self.bytes, self.pixels())
+        WorkSpace::new().sizes(self)
     }
 
-    /// The plate that an operation writes.
-    fn answered(
-        &self,
-        operation: impl FnOnce(&mut [u8], &mut [u32]) -> RecordHead,
-    ) -> Result<Plate, Refusal> {
-        let pixels = self.pixels();
-        let mut out = vec![0; pixels];
-        let head = operation(&mut out, &mut work_space(pixels));
-        Refusal::check(head.refusal)?;
-        Ok(Plate::new(head.width, head.height, out))
-    }
-
-    /// How many pixels the record's first two fields promise. It only sizes buffers: where the fields are damaged, the
-    /// operation refuses them whatever was lent.
-    fn pixels(&self) -> usize {
-        let (width, rest) = field(&self.bytes);
-        let (height, _) = field(rest);
-        width.saturating_mul(height).min(MAX_PIXELS)
+    /// For how many pixels buffers are lent. A record whose head is at fault is refused without any. One that is too
+    /// short for the pixels that it promises has a fault, and is refused ahead of lending it their space.
+    fn pixels(&self) -> Result<usize, Refusal> {
+        let pixels = self.head().map_or(0, |head| head.pixels());
+        if self.bytes.len() < LEAST_BYTES + pixels {
+            if let Some(fault) = self.fault() {
+                return Err(fault.refusal);
+            }
+        }
+        Ok(pixels)
     }
 }
 
-/// The number at the front, in groups of seven bits, lowest first, and the bytes after it.
-fn field(bytes: &[u8]) -> (usize, &[u8]) {
-    let end = bytes.iter().position(|byte| byte & 128 == 0);
-    let (number, rest) = bytes.split_at(end.map_or(0, |last| last + 1));
-    let value = number.iter().rev().fold(0usize, |value, byte| {
-        value
-            .saturating_mul(128)
-            .saturating_add(usize::from(byte & 127))
-    });
-    (value, rest)
+/// The operations on records.
+impl WorkSpace {
+    /// See [`Record::plate`].
+    pub fn plate(&mut self, record: &Record) -> Result<Plate, Refusal> {
+        self.plate_of(record, |out, work| {
+            lent::read_record(&record.bytes, out, work)
+        })
+    }
+
+    /// See [`Record::cut`].
+    pub fn cut(&mut self, record: &Record, limit: u32) -> Result<Plate, Refusal> {
+        self.plate_of(record, |out, work| {
+            lent::cut_record(&record.bytes, limit, out, work)
+        })
+    }
+
+    /// See [`Record::sizes`].
+    pub fn sizes(&mut self, record: &Record) -> Result<SizeList, Refusal> {
+        let pixels = record.pixels()?;
+        SizeList::of(&record.bytes, pixels, self.lend(pixels))
+    }
+
+    /// The plate that an operation on a record writes.
+    fn plate_of(
+        &mut self,
+        record: &Record,
+        operation: impl FnOnce(&mut [u8], &mut [u32]) -> RecordHead,
+    ) -> Result<Plate, Refusal> {
+        let pixels = record.pixels()?;
+        let mut out = vec![0; pixels];
+        let head = operation(&mut out, self.lend(pixels));
+        Refusal::check(head.refusal)?;
+        Ok(Plate::new(head.width, head.height, out))
+    }
 }

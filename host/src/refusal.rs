@@ -2,8 +2,17 @@
 
 use std::error::Error;
 use std::fmt;
+use std::str::FromStr;
 
 /// Why an operation was refused. The discriminants are the numbers of the refusals.
+///
+/// ```
+/// use livukoe::Refusal;
+///
+/// assert_eq!(Refusal::try_from(4), Ok(Refusal::Limit));
+/// assert_eq!("12".parse(), Ok(Refusal::GreatestGrey));
+/// assert!(Refusal::try_from(13).is_err());
+/// ```
 #[derive(Clone, Copy, Debug, PartialEq, Eq, Hash)]
 #[non_exhaustive]
 pub enum Refusal {
@@ -105,16 +114,47 @@ impl Refusal {
     ///
     /// Where no operation has a refusal of that number.
     pub(crate) fn check(number: u32) -> Result<(), Refusal> {
-        if number == 0 {
-            return Ok(());
+        match number {
+            0 => Ok(()),
+            _ => Err(Refusal::try_from(number).unwrap_or_else(|unknown| panic!("{unknown}"))),
         }
-        let (refusal, _) = MEANINGS
-            .iter()
-            .find(|(refusal, _)| refusal.number() == number)
-            .unwrap_or_else(|| panic!("no refusal has the number {number}"));
-        Err(*refusal)
     }
 }
+
+/// By its number.
+impl TryFrom<u32> for Refusal {
+    type Error = UnknownRefusal;
+
+    fn try_from(number: u32) -> Result<Refusal, UnknownRefusal> {
+        MEANINGS
+            .iter()
+            .map(|(refusal, _)| *refusal)
+            .find(|refusal| refusal.number() == number)
+            .ok_or_else(|| UnknownRefusal(number.to_string()))
+    }
+}
+
+/// By the digits of its number.
+impl FromStr for Refusal {
+    type Err = UnknownRefusal;
+
+    fn from_str(text: &str) -> Result<Refusal, UnknownRefusal> {
+        let number: u32 = text.parse().map_err(|_| UnknownRefusal(text.to_owned()))?;
+        number.try_into()
+    }
+}
+
+/// What is the number of no refusal.
+#[derive(Clone, Debug, PartialEq, Eq)]
+pub struct UnknownRefusal(String);
+
+impl fmt::Display for UnknownRefusal {
+    fn fmt(&self, f: &mut fmt::Formatter) -> fmt::Result {
+        write!(f, "no refusal has the number {:?}", self.0)
+    }
+}
+
+impl Error for UnknownRefusal {}
 
 impl fmt::Display for Refusal {
     fn fmt(&self, f: &mut fmt::Formatter) -> fmt::Result {

@@ -4,7 +4,6 @@ use std::fmt;
 
 use crate::lent::{self, SizeHead};
 use crate::refusal::Refusal;
-use crate::work_space;
 
 /// How many nodes have each area, and how much grey is lost when the limit passes it.
 ///
@@ -27,9 +26,9 @@ pub struct Size {
 }
 
 impl SizeList {
-    pub(crate) fn of(record: &[u8], pixels: usize) -> Result<SizeList, Refusal> {
+    pub(crate) fn of(record: &[u8], pixels: usize, work: &mut [u32]) -> Result<SizeList, Refusal> {
         let (mut counts, mut losses) = SizeList::tables(pixels);
-        let head = lent::size_list(record, &mut counts, &mut losses, &mut work_space(pixels));
+        let head = lent::size_list(record, &mut counts, &mut losses, work);
         Refusal::check(head.refusal)?;
         Ok(SizeList::new(head, counts, losses))
     }

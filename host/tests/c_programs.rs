@@ -1,55 +1,25 @@
 //! C programs over `include/livukoe.h`: compiled by `cc`, linked with the static library, run, and, where valgrind is
 //! installed, run once more under it.
 
-use std::env;
-use std::path::{Path, PathBuf};
-use std::process::{Command, Output};
+#[path = "c/compile.rs"]
+mod compile;
 
-const HERE: &str = env!("CARGO_MANIFEST_DIR");
+use std::collections::BTreeMap;
+use std::process::Command;
 
-/// Compiles a C program of this crate and gives the path of what was made.
-fn compiled(source: &str, name: &str) -> PathBuf {
-    let program = Path::new(env!("CARGO_TARGET_TMPDIR")).join(name);
-    let made = Command::new("cc")
-        .args([
-            "-std=c11",
-            "-O1",
-            "-g",
-            "-Wall",
-            "-Wextra",
-            "-Werror",
-            "-pedantic",
-        ])
-        .arg(format!("-I{HERE}/../include"))
-        .arg(Path::new(HERE).join(source))
-        .arg(Path::new(env!("LIVUKOE_LIB_DIR")).join("liblivukoe.a"))
-        .arg("-o")
-        .arg(&program)
-        .output()
-        .expect("the C compiler, cc, runs");
-    assert_passed(&made);
-    program
-}
-
-fn assert_passed(output: &Output) {
-    let said = String::from_utf8_lossy(&output.stderr);
-    assert!(output.status.success(), "{said}");
-}
-
-fn run(program: &Path) -> Output {
-    Command::new(program).output().expect("the program runs")
-}
+use compile::{assert_passed, compiled, compiler, declared, printed, HERE};
+use livukoe::Refusal;
 
 #[test]
 fn every_function() {
-    assert_passed(&run(&compiled("tests/c/check.c", "check")));
+    let printed = printed(&mut Command::new(compiled("tests/c/check.c", "check")));
+    assert_eq!(printed, "");
 }
 
 #[test]
 fn the_example() {
-    let output = run(&compiled("examples/clean.c", "clean"));
-    assert_passed(&output);
-    assert_eq!(output.stdout, b"refusal 0, pixel 5: 30\n");
+    let printed = printed(&mut Command::new(compiled("examples/clean.c", "clean")));
+    assert_eq!(printed, "pixel 5: 30\n");
 }
 
 /// No access beyond a buffer, no use of what was never written, nothing left after.
@@ -63,6 +33,87 @@ fn under_valgrind() {
     match run {
         Ok(output) => assert_passed(&output),
         Err(_) => eprintln!("valgrind is not installed: memory is not checked"),
+    }
+}
+
+/// Every function runs on a stack of 64 KB, and in what the header says that it needs.
+#[test]
+fn stack() {
+    let printed = printed(&mut Command::new(compiled("tests/c/stack.c", "stack")));
+    let used = numbers_by_name(printed.lines());
+    let header = include_str!("../../include/livukoe.h");
+    let table = header
+        .lines()
+        .filter_map(|line| line.strip_prefix(" *     "));
+    let stated = numbers_by_name(table);
+    assert_eq!(used.len(), declared().len());
+    for name in declared() {
+        let (used, stated) = (used[name], stated[name]);
+        assert!(used <= stated, "{name} used {used} bytes of {stated}");
+        assert!(stated <= 16_384, "{name} is stated to need {stated}");
+    }
+}
+
+/// The numbers of lines that have a name and a number.
+fn numbers_by_name<'a>(lines: impl Iterator<Item = &'a str>) -> BTreeMap<&'a str, usize> {
+    let parts = lines.map(|line| {
+        let (name, number) = line.split_once(' ').expect("two words");
+        (
+            name,
+            number
+                .trim_end_matches("*/")
+                .trim()
+                .parse()
+                .expect("a whole number"),
+        )
+    });
+    parts.collect()
+}
+
+/// The texts of the refusals are those of this crate.
+#[test]
+fn refusals_in_words() {
+    let texts = printed(&mut Command::new(compiled(
+        "tests/c/refusals.c",
+        "refusals",
+    )));
+    let refusals = [
+        Refusal::Connectivity,
+        Refusal::Grid,
+        Refusal::PlateLength,
+        Refusal::Limit,
+        Refusal::OutputShort,
+        Refusal::WorkShort,
+        Refusal::Letters,
+        Refusal::Header,
+        Refusal::GreatestGrey,
+        Refusal::RasterShort,
+        Refusal::RasterLong,
+        Refusal::FieldUnended,
+        Refusal::FieldForm,
+        Refusal::FieldRange,
+        Refusal::RecordLong,
+        Refusal::NotCanonical,
+    ];
+    let wanted = |number| match refusals.iter().find(|refusal| refusal.number() == number) {
+        Some(refusal) => refusal.to_string(),
+        None if number == 0 => "refused 0: not refused".into(),
+        None => format!("refused {number}: no refusal has this number"),
+    };
+    let wanted: Vec<String> = (0..40).map(wanted).collect();
+    assert_eq!(texts.lines().collect::<Vec<_>>(), wanted);
+}
+
+/// The header is C++ as well.
+#[test]
+fn from_cxx() {
+    let made = compiler("c++")
+        .args(["-std=c++11", "-fsyntax-only", "-x", "c++"])
+        .arg(format!("{HERE}/../include/livukoe.h"))
+        .output();
+    match made {
+        Ok(output) => assert_passed(&output),
+        Err(_) => eprintln!("c++ is not installed: the header is not compiled by it"),
     }
 }
 

@@ -1,99 +1,12 @@
-//! The command-line tool: its answers, its refusals, and what it leaves in the file system.
+//! The command-line tool: its answers, its messages and its exit statuses.
 
-use std::fs;
-use std::io::Write;
+mod tool_common;
+
+use std::fs::{self, File};
 use std::path::{Path, PathBuf};
-use std::process::{Command, Output, Stdio};
+use std::process::Stdio;
 
-/// Paper 01's small plate.
-const SMALL: &[u8] = b"P5\n4 3\n255\n\x0a\x0a\x0a\x0a\x0a\x32\x1e\x0a\x0a\x0a\x0a\x5a";
-const SMALL_RECORD: [u8; 27] = [
-    4, 3, 4, 4, 10, 12, 1, 20, 2, 1, 20, 1, 3, 80, 1, 0, 0, 0, 0, 0, 2, 1, 0, 0, 0, 0, 3,
-];
-
-/// A directory of a test's own, removed at its end.
-struct Folder(PathBuf);
-
-impl Folder {
-    fn new(test: &str) -> Folder {
-        let path = std::env::temp_dir().join(format!("livukoe-{test}-{}", std::process::id()));
-        fs::create_dir_all(&path).expect("a directory");
-        Folder(path)
-    }
-
-    fn path(&self, name: &str) -> PathBuf {
-        self.0.join(name)
-    }
-
-    /// Writes a file and gives its path.
-    fn file(&self, name: &str, bytes: &[u8]) -> PathBuf {
-        fs::write(self.path(name), bytes).expect("a file");
-        self.path(name)
-    }
-
-    fn names(&self) -> Vec<String> {
-        let entries = fs::read_dir(&self.0).expect("the directory");
-        let names = entries.map(|entry| entry.expect("an entry").file_name());
-        let mut names: Vec<String> = names.map(|name| name.to_string_lossy().into()).collect();
-        names.sort();
-        names
-    }
-}
-
-impl Drop for Folder {
-    fn drop(&mut self) {
-        let _ = fs::remove_dir_all(&self.0);
-    }
-}
-
-fn tool() -> Command {
-    Command::new(env!("CARGO_BIN_EXE_livukoe"))
-}
-
-/// Runs the tool with words and files.
-fn run(words: &[&str], files: &[&Path]) -> Output {
-    tool().args(words).args(files).output().expect("a run")
-}
-
-/// Runs the tool on standard input.
-fn run_on(words: &[&str], input: &[u8]) -> Output {
-    let mut child = tool()
-        .args(words)
-        .stdin(Stdio::piped())
-        .stdout(Stdio::piped())
-        .stderr(Stdio::piped())
-        .spawn()
-        .expect("a run");
-    let mut stdin = child.stdin.take().expect("its input");
-    stdin.write_all(input).expect("all of it");
-    drop(stdin);
-    child.wait_with_output().expect("its output")
-}
-
-fn assert_ok(output: &Output) {
-    assert_eq!(text(&output.stderr), "");
-    assert_eq!(output.status.code(), Some(0));
-}
-
-fn assert_refused(output: &Output, number: u32) {
-    let message = text(&output.stderr);
-    assert!(
-        message.starts_with(&format!("livukoe: refused {number}: ")),
-        "{message}"
-    );
-    assert_eq!(message.lines().count(), 1);
-    assert_eq!(text(&output.stdout), "");
-    assert_eq!(output.status.code(), Some(1));
-}
-
-fn text(bytes: &[u8]) -> String {
-    String::from_utf8_lossy(bytes).into_owned()
-}
-
-/// The plate file of 4 x 3 greys.
-fn small_file(greys: [u8; 12]) -> Vec<u8> {
-    [b"P5\n4 3\n255\n", &greys[..]].concat()
-}
+use tool_common::*;
 
 #[test]
 fn the_small_plate() {
@@ -140,40 +53,6 @@ fn records() {
 }
 
 #[test]
-fn files() {
-    let folder = Folder::new("files");
-    let (input, output) = (folder.file("in.pgm", SMALL), folder.path("out.pgm"));
-    assert_ok(&run(&["open", "--limit", "2"], &[&input, &output]));
-    assert_eq!(fs::read(&output).expect("OUT").len(), SMALL.len());
-    assert_eq!(folder.names(), ["in.pgm", "out.pgm"]);
-    // IN and OUT may be one file
-    assert_ok(&run(&["open", "--limit", "2"], &[&input, &input]));
-    assert_eq!(
-        fs::read(&input).expect("IN"),
-        fs::read(&output).expect("OUT")
-    );
-}
-
-#[test]
-fn a_refusal_leaves_the_output() {
-    let folder = Folder::new("refusal");
-    let (input, output) = (
-        folder.file("in.pgm", SMALL),
-        folder.file("out.pgm", b"as it was"),
-    );
-    for (limit, number) in [("0", 4), ("13", 4), ("99999999999999999999", 4)] {
-        assert_refused(
-            &run(&["open", "--limit", limit], &[&input, &output]),
-            number,
-        );
-    }
-    let damaged = folder.file("damaged.rec", &SMALL_RECORD[..26]);
-    assert_refused(&run(&["plate"], &[&damaged, &output]), 20);
-    assert_eq!(fs::read(&output).expect("OUT"), b"as it was");
-    assert_eq!(folder.names(), ["damaged.rec", "in.pgm", "out.pgm"]);
-}
-
-#[test]
 fn refusals() {
     for (file, number) in [
         (&b""[..], 10),
@@ -210,75 +89,337 @@ fn refusals() {
 fn an_endless_input_is_refused() {
     let input = Path::new("/dev/zero");
     if input.exists() {
-        assert_refused(
-            &run(&["open", "--limit", "1"], &[input, Path::new("-")]),
-            10,
-        );
+        for (command, number) in [("maxima", 10), ("plate", 22)] {
+            assert_refused(&run(&[command], &[input, Path::new("-")]), number);
+        }
     }
 }
 
+/// What an input is that is no plate file, and what makes one of it.
 #[test]
-fn devices_are_written_and_not_replaced() {
-    let folder = Folder::new("devices");
-    let input = folder.file("in.pgm", SMALL);
-    assert_ok(&run(
-        &["open", "--limit", "1"],
-        &[&input, Path::new("/dev/null")],
-    ));
-    let about = fs::metadata("/dev/null").expect("the device");
-    assert!(!about.is_file());
-}
-
-#[test]
-fn bad_usage() {
-    for words in [
-        &[][..],
-        &["clean"],
-        &["open", "a", "b"],
-        &["open", "--limit", "a", "b"],
-        &["open", "--limit", "2", "a"],
-        &["open", "--limit", "2x", "a", "b"],
-        &["open", "--limit", "2", "--connectivity", "6", "a", "b"],
-        &["open", "--limit", "2", "--colour", "a", "b"],
-        &["open", "--limit", "2", "a", "b", "c"],
-        &["maxima", "--limit", "2", "a", "b"],
-        &["plate", "--connectivity", "4", "a", "b"],
-        &["nodes", "a", "b"],
-        &["nodes", "a", "--connectivity"],
+fn other_formats() {
+    for (input, what, command) in [
+        (&b"P1 1 1 0"[..], "a plain PBM", "pgmtopgm"),
+        (b"P2 1 1 255 7", "a plain PGM", "pnmtopnm"),
+        (b"P3 1 1 255 7 7 7", "a plain PPM", "ppmtopgm"),
+        (b"P4 1 1\n\x80", "a raw PBM", "pgmtopgm"),
+        (b"P6 1 1 255\n\x07\x07\x07", "a raw PPM", "ppmtopgm"),
+        (b"P7\nWIDTH 1\n", "a PAM", "pamtopnm | ppmtopgm"),
+        (b"\x89PNG\r\n\x1a\n", "a PNG", "pngtopnm | ppmtopgm"),
+        (b"II*\0", "a TIFF", "tifftopnm | ppmtopgm"),
+        (b"MM\0*", "a TIFF", "tifftopnm | ppmtopgm"),
+        (b"\xff\xd8\xff\xe0", "a JPEG", "jpegtopnm | ppmtopgm"),
+        (b"\x1f\x8b\x08", "compressed by gzip", "gunzip"),
+        (
+            b"\xef\xbb\xbfP5 1 1 255 x",
+            "a raw PGM after a byte order mark",
+            "tail -c +4",
+        ),
     ] {
-        let output = run(words, &[]);
-        assert_eq!(output.status.code(), Some(2), "{words:?}");
-        assert!(text(&output.stderr).contains("Usage:"), "{words:?}");
-        assert_eq!(text(&output.stdout), "", "{words:?}");
+        let line = format!("the input is {what}, not a raw PGM (P5); it becomes one by: {command}");
+        let line = format!("standard input: refused 10: {line}");
+        assert_says(&run_on(&["maxima", "-", "-"], input), 1, &line);
+    }
+    for (input, what) in [
+        (&b""[..], "is empty"),
+        (
+            b"\xff\xfeP\x005\0",
+            "is text with a byte order mark, not a raw PGM (P5)",
+        ),
+        (
+            b"\x01\xab",
+            "does not begin with P5; its first bytes are 01 ab",
+        ),
+    ] {
+        let line = format!("standard input: refused 10: the input {what}");
+        assert_says(&run_on(&["sizelist", "-"], input), 1, &line);
     }
 }
 
 #[test]
 fn help_and_version() {
-    for words in [&["--help"][..], &["open", "--help"]] {
+    for words in [&["--help"][..], &["help"], &["-h"], &["open", "--help"]] {
         let help = run(words, &[]);
         assert_ok(&help);
         assert!(text(&help.stdout)
             .contains("livukoe open  --limit N [--connectivity 4|8] IN.pgm OUT.pgm"));
     }
-    let version = run(&["--version"], &[]);
-    assert_ok(&version);
-    assert_eq!(
-        text(&version.stdout),
-        format!("livukoe {}\n", env!("CARGO_PKG_VERSION"))
+    for word in ["--version", "version", "-V"] {
+        let version = run(&[word], &[]);
+        assert_ok(&version);
+        let wanted = format!("livukoe {}\n", env!("CARGO_PKG_VERSION"));
+        assert_eq!(text(&version.stdout), wanted);
+    }
+}
+
+/// A file's name is shown so that it cannot act on a terminal.
+#[test]
+fn names_in_messages() {
+    let folder = Folder::new("names");
+    let input = folder.file("a\n\x1b[2J.pgm", b"P5");
+    let output = run(&["maxima"], &[&input, Path::new("-")]);
+    assert_says_of(
+        &output,
+        1,
+        "a\\n\\u{1b}[2J.pgm: refused 11: the file ends at byte 2;",
     );
 }
 
+/// Whatever is done to its standard streams, the status is one of those that are promised.
 #[test]
-fn files_that_cannot_be_used() {
-    let folder = Folder::new("unusable");
-    let input = folder.file("in.pgm", SMALL);
-    let missing = folder.path("missing.pgm");
-    let output = folder.path("no/such/folder/out.pgm");
-    for files in [[&missing, &missing], [&input, &output]] {
-        let output = run(&["open", "--limit", "2"], &files.map(PathBuf::as_path));
-        assert_eq!(output.status.code(), Some(3));
-        assert!(text(&output.stderr).starts_with("livukoe: cannot "));
+fn standard_streams() {
+    let open = ["open", "--limit", "2", "-", "-"];
+    for (line, status, words) in [
+        (
+            "\"$@\" >&-",
+            3,
+            "cannot write standard output: it is closed",
+        ),
+        (
+            "\"$@\" >/dev/full",
+            3,
+            "cannot write standard output: No space left on device",
+        ),
+        (
+            "\"$@\" 1</dev/null",
+            3,
+            "cannot write standard output: Bad file descriptor",
+        ),
+        ("\"$@\" <&-", 3, "cannot read standard input: it is closed"),
+        ("\"$@\" <.", 3, "cannot read standard input: Is a directory"),
+    ] {
+        let output = run_fed(&mut by_shell(line, &open), SMALL);
+        assert_says_of(&output, status, words);
     }
-    assert_eq!(folder.names(), ["in.pgm"]);
+    for (line, words, status) in [
+        ("\"$@\" 2>/dev/full", &["clean"][..], 2),
+        ("\"$@\" 2>&-", &["clean"], 2),
+        ("\"$@\" 2>/dev/full", &["maxima", "/no/such/file", "-"], 3),
+        ("echo P4 | \"$@\" 2>/dev/full", &["maxima", "-", "-"], 1),
+        ("\"$@\" >&- 2>&-", &["help"], 3),
+    ] {
+        let output = by_shell(line, words).output().expect("a run");
+        assert_eq!(output.status.code(), Some(status), "{line} {words:?}");
+    }
+}
+
+/// A reader that has read enough is nothing to speak of.
+#[test]
+fn a_broken_pipe() {
+    let folder = Folder::new("pipe");
+    let noise: Vec<u8> = (0..1 << 16).map(|at: u32| ((at * at) >> 7) as u8).collect();
+    let input = folder.file("in.pgm", &[b"P5 256 256 255\n", &noise[..]].concat());
+    let mut child = tool()
+        .args([Path::new("nodes"), &input])
+        .stdout(Stdio::piped())
+        .stderr(Stdio::piped())
+        .spawn()
+        .expect("a run");
+    drop(child.stdout.take());
+    let output = child.wait_with_output().expect("its end");
+    assert_eq!(text(&output.stderr), "");
+    assert_eq!(output.status.code(), Some(3));
+}
+
+/// Memory that is refused is told, and the status is one of those that are promised.
+#[test]
+fn no_memory() {
+    let folder = Folder::new("memory");
+    let plate = [b"P5 4096 4096 255\n", &vec![7; 1 << 24][..]].concat();
+    let input = folder.file("in.pgm", &plate);
+    let words = ["maxima", input.to_str().expect("a name"), "-"];
+    for kibibytes in [20_000, 50_000, 200_000] {
+        let line = format!("ulimit -v {kibibytes}; \"$@\"");
+        let output = by_shell(&line, &words).output().expect("a run");
+        assert_says(&output, 3, "there is not enough memory");
+    }
+}
+
+/// An input that is too long to be read whole is refused by what was read, or in the tool's own words.
+#[test]
+fn long_inputs() {
+    let folder = Folder::new("long");
+    let long = |name: &str, first: &[u8], zeros: u64, last: &[u8]| {
+        let path = folder.file(name, first);
+        let file = File::options().append(true).open(&path).expect("the file");
+        file.set_len(first.len() as u64 + zeros)
+            .expect("its length");
+        std::io::Write::write_all(&mut &file, last).expect("its end");
+        path
+    };
+    let comment = |name, length| long(name, b"P5 #", length, b"\n1 1 255\n\x07");
+    let maxima = |input: &PathBuf| run(&["maxima"], &[input, Path::new("-")]);
+    let most = 1 << 28;
+    let output = maxima(&comment("most.pgm", most - 14));
+    assert_ok(&output);
+    assert_eq!(output.stdout, b"P5\n1 1\n255\n\xff");
+    let more = "cannot read";
+    assert_says_of(&maxima(&comment("more.pgm", most - 13)), 3, more);
+    let longer = maxima(&comment("longer.pgm", most + 100));
+    assert_says_of(&longer, 3, "longer.pgm: it has more than 268435456 bytes");
+    let left = maxima(&long("left.pgm", b"P5 1 1 255\n\x07", most, b""));
+    assert_says_of(&left, 1, "refused 15: at least 268435445 bytes left over");
+    fs::remove_file(folder.path("left.pgm")).expect("removed");
+}
+
+/// A command, the header of a plate file, how many bytes follow it, and the refusal with the figures of the case.
+const PLATE_FIGURES: [(&str, &str, usize, &str); 10] = [
+    (
+        "open --limit 500",
+        "P5 20 20 255\n",
+        400,
+        "4: the limit 500 is above the 400 pixels (20 x 20)",
+    ),
+    (
+        "close --limit 00",
+        "P5 2 1 255\n",
+        2,
+        "4: the limit is 0; the least is 1",
+    ),
+    (
+        "open --limit 099999999999999999999",
+        "P5 2 1 255\n",
+        2,
+        "4: the limit 99999999999999999999 is above the 2 pixels (2 x 1)",
+    ),
+    (
+        "maxima",
+        "P5 1 1 65535\n",
+        2,
+        "12: the greatest grey is 65535; 255 is read",
+    ),
+    (
+        "maxima",
+        "P5 5000 4000 255\n",
+        0,
+        "2: 5000 x 4000 = 20000000 pixels; at most 16777216",
+    ),
+    (
+        "maxima",
+        "P5 0 40000 255\n",
+        0,
+        "2: 0 x 40000 pixels; each side is 1 to 32768",
+    ),
+    (
+        "maxima",
+        "P5 1 x 255\n",
+        1,
+        "11: byte 5 of the header is 'x'; a digit of the height should be there",
+    ),
+    (
+        "maxima",
+        "P5 1 #",
+        0,
+        "11: the file ends at byte 6; the end of a comment should be there",
+    ),
+    (
+        "maxima",
+        "P5 2 3 255\n",
+        1,
+        "14: 1 byte for 6 pixels (2 x 3)",
+    ),
+    (
+        "maxima",
+        "P5 2 3 255\n",
+        8,
+        "15: 2 bytes left over after the 6 pixels (2 x 3)",
+    ),
+];
+
+#[test]
+fn refusals_of_plate_files_with_figures() {
+    for (command, header, bytes, wanted) in PLATE_FIGURES {
+        let file = [header.as_bytes(), &vec![7; bytes]].concat();
+        assert_tells(command, &file, wanted);
+    }
+    let roll = "15: a roll of several plates: 23 bytes after the first (4 x 3) begin with P5; \
+                pamsplit parts them";
+    assert_tells("maxima", &[SMALL, SMALL].concat(), roll);
+}
+
+/// A command on standard input is refused in these words.
+fn assert_tells(command: &str, input: &[u8], wanted: &str) {
+    let words: Vec<&str> = command.split(' ').chain(["-", "-"]).collect();
+    let line = format!("standard input: refused {wanted}");
+    assert_says(&run_on(&words, input), 1, &line);
+}
+
+#[test]
+fn refusals_of_records_with_figures() {
+    let limit = "4: the limit 13 is above the 12 pixels (4 x 3)";
+    assert_tells("cut --limit 13", &SMALL_RECORD, limit);
+    let longer = [&SMALL_RECORD[..], &[0]].concat();
+    for (record, wanted) in [
+        (
+            &SMALL_RECORD[..26],
+            "20: byte 26: the own node of pixel 11 is not ended; the record has 26 bytes",
+        ),
+        (
+            &[132, 0],
+            "21: byte 0: the width is not in its shortest form, or is above 4294967295",
+        ),
+        (&[4, 3, 6], "22: byte 2: the connectivity is 6; 4 or 8"),
+        (
+            SMALL,
+            "22: byte 2: the connectivity is 10; 4 or 8 (the input is a raw PGM (P5), not a record)",
+        ),
+        (&longer, "23: 1 byte left over after the last field"),
+        (
+            &[2, 1, 4, 1, 7, 1, 0, 0],
+            "24: the record is not the one that its plate has",
+        ),
+    ] {
+        assert_tells("plate", record, wanted);
+    }
+}
+
+/// Command lines, and what is wrong with them.
+const SLIPS: [(&str, &str); 20] = [
+    ("clean", "there is no command clean"),
+    ("open a b", "open lacks --limit"),
+    ("open --limit a b", "the limit a is not a whole number"),
+    (
+        "open --limit 2 a",
+        "open takes IN and OUT, and 1 file is given",
+    ),
+    ("open --limit=2x a b", "the limit 2x is not a whole number"),
+    ("open --limit= a b", "the limit  is not a whole number"),
+    (
+        "open --limit 2 --connectivity 6 a b",
+        "the connectivity 6 is neither 4 nor 8",
+    ),
+    ("open --limit 2 --colour a b", "there is no option --colour"),
+    (
+        "open --limit 2 a b c",
+        "open takes IN and OUT, and 3 files are given",
+    ),
+    ("open --limit 2 --limit=2 a b", "--limit is given twice"),
+    (
+        "maxima --connectivity=4 --connectivity 8 a b",
+        "--connectivity is given twice",
+    ),
+    ("maxima --force --force a b", "--force is given twice"),
+    ("maxima --force=yes a b", "--force takes no value"),
+    ("maxima --limit 2 a b", "maxima takes no --limit"),
+    (
+        "plate --connectivity 4 a b",
+        "plate takes no --connectivity",
+    ),
+    ("nodes --force a", "nodes takes no --force"),
+    ("nodes a b", "nodes takes IN, and 2 files are given"),
+    ("nodes a --connectivity", "--connectivity lacks its value"),
+    ("\x1b[2J", "there is no command \\u{1b}[2J"),
+    ("nodes --\n", "there is no option --\\n"),
+];
+
+/// A slip is told in one line, which says where there is more.
+#[test]
+fn bad_usage() {
+    let none = "no command is given; see livukoe --help";
+    assert_says(&run(&[], &[]), 2, none);
+    for (line, wanted) in SLIPS {
+        let words: Vec<&str> = line.split(' ').collect();
+        let wanted = format!("{wanted}; see livukoe --help");
+        assert_says(&run(&words, &[]), 2, &wanted);
+    }
 }

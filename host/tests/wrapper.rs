@@ -2,8 +2,8 @@
 
 mod common;
 
-use common::Chance;
-use livukoe::{ink_percentage, Connectivity, Joint, Plate, Record, Refusal};
+use common::{Chance, Seen};
+use livukoe::{ink_percentage, lent, Connectivity, Joint, Plate, Record, Refusal, WorkSpace};
 
 fn small() -> Plate {
     Plate::new(4, 3, vec![10, 10, 10, 10, 10, 50, 30, 10, 10, 10, 10, 90])
@@ -107,4 +107,178 @@ fn the_text_of_sizelist() {
         };
         assert_eq!(text, reference::sizelist_text(&file));
     }
+}
+
+/// Buffers are handed out as they are.
+#[test]
+fn greys_and_bytes_without_a_copy() {
+    let plate = small();
+    let start = plate.greys().as_ptr();
+    let greys = plate.into_greys();
+    assert_eq!(greys.as_ptr(), start);
+    let record = small().record(Connectivity::Four).expect("a record");
+    let start = record.bytes().as_ptr();
+    let bytes = record.into_bytes();
+    assert_eq!(bytes.as_ptr(), start);
+}
+
+#[test]
+fn connectivities_and_refusals_by_number() {
+    for connectivity in Connectivity::ALL {
+        assert_eq!(connectivity.number().try_into(), Ok(connectivity));
+        assert_eq!(connectivity.to_string().parse(), Ok(connectivity));
+    }
+    for number in [0, 1, 5, 7, 9, u32::MAX] {
+        assert_eq!(Connectivity::try_from(number), Err(Refusal::Connectivity));
+    }
+    for text in ["", "4 ", "+4", "04", "four", "12"] {
+        assert_eq!(text.parse::<Connectivity>(), Err(Refusal::Connectivity));
+    }
+    for refusal in (0..100).filter_map(|number| Refusal::try_from(number).ok()) {
+        assert_eq!(refusal.number().try_into(), Ok(refusal));
+        assert_eq!(refusal.number().to_string().parse(), Ok(refusal));
+    }
+    for text in ["", "0", "13", "four"] {
+        let unknown = text.parse::<Refusal>().unwrap_err();
+        let words = format!("no refusal has the number {text:?}");
+        assert_eq!(unknown.to_string(), words);
+    }
+}
+
+/// What every operation answers in a work space.
+fn answers(work: &mut WorkSpace, plate: &Plate, connectivity: Connectivity, limit: u32) -> String {
+    let record = work.record(plate, connectivity);
+    let joint = work.record_cut_sizes(plate, connectivity, limit);
+    let of_record = record.clone().map(|record| {
+        let (plate, cut) = (work.plate(&record), work.cut(&record, limit));
+        (plate, cut, work.sizes(&record))
+    });
+    format!(
+        "{:?} {:?} {:?} {:?} {record:?} {of_record:?} {joint:?}",
+        work.area_open(plate, connectivity, limit),
+        work.area_close(plate, connectivity, limit),
+        work.regional_maxima(plate, connectivity),
+        work.nodes(plate, connectivity),
+    )
+}
+
+/// A work space that has served other plates answers as a fresh one does.
+#[test]
+fn a_shared_work_space() {
+    let mut chance = Chance::new(16);
+    let mut shared = WorkSpace::new();
+    assert_eq!(shared.pixels(), 0);
+    let mut greatest = 0;
+    for _ in 0..2_000 {
+        let ticket = chance.ticket(9);
+        let limit = chance.limit(ticket.pixels());
+        let Ok(connectivity) = ticket.connectivity.try_into() else {
+            continue;
+        };
+        let plate = Plate::new(ticket.width, ticket.height, ticket.greys);
+        let fresh = &mut WorkSpace::for_pixels(plate.greys().len());
+        assert_eq!(
+            answers(&mut shared, &plate, connectivity, limit),
+            answers(fresh, &plate, connectivity, limit)
+        );
+        greatest = greatest.max(plate.greys().len());
+    }
+    assert_eq!(shared.pixels(), greatest);
+}
+
+/// A plate of more greys than any plate has is refused as a smaller one is.
+#[test]
+fn too_many_greys() {
+    let plate = Plate::new(1, 1, vec![0; livukoe::MAX_PIXELS + 1]);
+    let mut work = WorkSpace::new();
+    let refusal = Err(Refusal::PlateLength);
+    assert_eq!(work.area_open(&plate, Connectivity::Four, 1), refusal);
+    assert_eq!(work.pixels(), livukoe::MAX_PIXELS);
+}
+
+#[test]
+fn heads_of_records() {
+    let record = small().record(Connectivity::Eight).expect("a record");
+    let head = record.head().expect("its head");
+    assert_eq!((head.width, head.height, head.nodes), (4, 3, 4));
+    assert_eq!(head.connectivity, Connectivity::Eight);
+    for (bytes, refusal) in [
+        (&[][..], Refusal::FieldUnended),
+        (&[4, 3, 4], Refusal::FieldUnended),
+        (&[132, 0], Refusal::FieldForm),
+        (&[0], Refusal::FieldRange),
+        (&[128, 128, 2, 129, 4], Refusal::FieldRange), // 32768 x 513
+        (&[4, 3, 6], Refusal::FieldRange),
+        (&[4, 3, 4, 13], Refusal::FieldRange),
+    ] {
+        let record = Record::from_bytes(bytes.to_vec());
+        assert_eq!(record.head(), Err(refusal));
+    }
+}
+
+/// Where a record is damaged.
+#[test]
+fn faults_of_records() {
+    for (bytes, words) in [
+        (
+            &[][..],
+            "byte 0: the width is not ended; the record has 0 bytes",
+        ),
+        (&[4, 0], "byte 1: the height is 0; 1 to 32768"),
+        (
+            &[4, 132, 0],
+            "byte 1: the height is not in its shortest form, or is above 4294967295",
+        ),
+        (&[4, 3, 6], "byte 2: the connectivity is 6; 4 or 8"),
+        (
+            &[2, 1, 4, 2, 250, 1, 2, 1, 6],
+            "byte 8: the rise of node 1 is 6; 1 to 5",
+        ),
+        (
+            &[1, 1, 4, 1, 7, 1, 1],
+            "byte 6: the own node of pixel 0 is 1; 0 to 0",
+        ),
+    ] {
+        let fault = Record::from_bytes(bytes.to_vec()).fault();
+        assert_eq!(fault.expect("a fault").to_string(), words);
+    }
+    let longer = Record::from_bytes(vec![1, 1, 4, 1, 7, 1, 0, 9, 9]);
+    assert_eq!((longer.fault(), longer.left_over()), (None, 2));
+}
+
+/// The walk over the fields finds what the proved reader refuses with 20, 21 and 22, and nothing else.
+#[test]
+fn faults_are_those_of_the_proved_reader() {
+    let mut chance = Chance::new(17);
+    let mut seen = Seen::default();
+    let (mut out, mut work) = (vec![0; 1 << 12], vec![0; 8 << 12]);
+    for _ in 0..100_000 {
+        let mut bytes = record_by_chance(&mut chance);
+        chance.damage(&mut bytes);
+        let record = Record::from_bytes(bytes);
+        if record.head().is_ok_and(|head| head.pixels() > out.len()) {
+            continue; // the buffers here are small
+        }
+        let proved = lent::read_record(record.bytes(), &mut out, &mut work).refusal;
+        seen.note(proved);
+        let fault = record.fault().map_or(0, |fault| fault.refusal.number());
+        let wanted = if (20..23).contains(&proved) {
+            proved
+        } else {
+            0
+        };
+        assert_eq!(fault, wanted, "{:?}", record.bytes());
+        assert_eq!(record.left_over() > 0, proved == 23, "{:?}", record.bytes());
+        let answer = record.plate().map_or_else(Refusal::number, |_| 0);
+        assert_eq!(answer, proved, "{:?}", record.bytes());
+    }
+    seen.assert_all(&[0, 20, 21, 22, 23, 24]);
+}
+
+/// The record of a small plate by chance.
+fn record_by_chance(chance: &mut Chance) -> Vec<u8> {
+    let plate = chance.plate(6);
+    let connectivity = plate.connectivity.try_into().expect("4 or 8");
+    let plate = Plate::new(plate.width, plate.height, plate.greys);
+    plate.record(connectivity).expect("a record").into_bytes()
 }

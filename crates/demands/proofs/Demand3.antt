@@ -1,5 +1,5 @@
 -- The theorem of demand 3.
-use mathlib.Core.Path.{_≡_, refl, sym, ap, _∙_}
+use mathlib.Core.Path.{_≡_, refl, ap, _∙_}
 use mathlib.Core.List.{List}
 use Prim.Native.Nat.{ℕ, suc, _-_, _*_, _≤_, _<_}
 use native.Mathlib.Nat.{mul-comm}
@@ -16,7 +16,7 @@ use Rattle.meaning.specs.Record.{recordOf}
 use Rattle.meaning.specs.Sets.{nth, sum, table}
 use Rattle.theory_lists.proofs.Lists.{getD-table, length-table}
 use Rattle.theory_lists.proofs.Sums.{sum-cong}
-use Rattle.theorems.proofs.Theorems.{cut-equals-opened, losses-make-total, lost-is-difference, opened-is-lightest, opened-large-maxima, opened-nowhere-lighter}
+use Rattle.theorems.proofs.Theorems.{cut-equals-opened, losses-make-total, lost-makes-cut, opened-is-lightest, opened-large-maxima, opened-nowhere-lighter}
 use Rattle.record_parse.specs.Parse.{plate}
 use Rattle.record_roundtrip.proofs.There.{read-there}
 use Rattle.record.specs.declared.SizeHead.{SizeHead}
@@ -40,7 +40,13 @@ module _ {k w h : ℕ} {f : List ℕ} (pl : Plate k w h f) where
   write-zero : (out work : List ℕ) → length bytes ≤ length out → 8 * (w * h) ≤ length work → writeRefusal k w h f out work ≡ 0
   unfolding writeRefusal treeRefusal
   write-zero out work room-out room-work =
-      rw (pl .kind, pl .sizes, eq-eqb (length f) (w * h) (pl .long), le-ltb (length work) (8 * (w * h)) room-work, le-ltb (length out) (length bytes) room-out)
+      rw (
+        pl .kind,
+        pl .sizes,
+        eq-eqb (length f) (w * h) (pl .long),
+        le-ltb (length work) (8 * (w * h)) room-work,
+        le-ltb (length out) (length bytes) room-out,
+      )
 
   writing-is : (out work : List ℕ) → length bytes ≤ length out → 8 * (w * h) ≤ length work
       → (writeAnswer k w h f out work ≡ record { refusal = 0; length = length bytes }) × (written k w h f out work ≡ bytes)
@@ -82,7 +88,8 @@ module _ {k w h : ℕ} {f : List ℕ} (pl : Plate k w h f) where
 
   -- ---- the size list
 
-  module _ (counts′ losses′ work plain : List ℕ) (a : w * h - 1 ≤ length counts′) (b : w * h - 1 ≤ length losses′) (c : 8 * (w * h) ≤ length work) (d : w * h ≤ length plain) where
+  module _ (counts′ losses′ work plain : List ℕ)
+      (a : w * h - 1 ≤ length counts′) (b : w * h - 1 ≤ length losses′) (c : 8 * (w * h) ≤ length work) (d : w * h ≤ length plain) where
     pub size-zero : sizeRefusal (plate k w h f) (length counts′) (length losses′) ≡ 0
     size-zero = rw (le-ltb (length counts′) (w * h - 1) a, le-ltb (length losses′) (w * h - 1) b)
 
@@ -131,11 +138,14 @@ module _ {k w h : ℕ} {f : List ℕ} (pl : Plate k w h f) where
       node-counts = count-nth;
       grey-lost = λ x l m.
           let e : suc (x - 1) ≡ x = omega arith in
-          loss-nth (x - 1) (omega arith)
-          ∙ ap (lostAt (length f) (touch k w) (grey f) (nodesOf k w f) (attribute (length f))) e
-          ∙ lost-is-difference pl x (omega (arith, pl .long))
-          ∙ sym (ap (λ (t : List ℕ). total t - total (cutPlate w h bytes (suc x) plain work)) (cut-plate-is x l (omega arith) plain work d c)
-          ∙ ap (λ (t : List ℕ). total (cut k w x f) - total t) (cut-plate-is (suc x) (omega arith) (omega arith) plain work d c));
+          omega (
+            arith,
+            loss-nth (x - 1) (omega arith),
+            ap (lostAt (length f) (touch k w) (grey f) (nodesOf k w f) (attribute (length f))) e,
+            lost-makes-cut pl x (omega (arith, pl .long)),
+            ap total (cut-plate-is x l (omega arith) plain work d c),
+            ap total (cut-plate-is (suc x) (omega arith) (omega arith) plain work d c),
+          );
       whole =
           let g : ℕ → ℕ = λ (i : ℕ). lostAt (length f) (touch k w) (grey f) (nodesOf k w f) (attribute (length f)) (suc i) in
           omega (

@@ -46,15 +46,16 @@ unfoldable pub sizeLosses : (bytes counts losses work : List ℕ) → List ℕ
 unfolding readOf
 sizeLosses bytes counts losses work = lossesOut (readOf bytes (length work)) (length counts) losses
 
--- the cut at one limit: it is not refused, and it is the lightest plate that is nowhere lighter than f and whose regional maxima have at least the limit's pixels
+-- the cut at one limit: it is not refused, and it is the lightest plate that is nowhere lighter than f and whose regional maxima have at least the
+-- limit's pixels
 pub record CutClaim (k w h : ℕ) (f bytes : List ℕ) (limit : ℕ) (out work : List ℕ) : Type 0 where
   pub accepted : cutHead bytes limit out work ≡ record { refusal = 0; width = w; height = h; connectivity = k }
   pub nowhere-lighter : NowhereLighter (cutPlate w h bytes limit out work) f
   pub large-maxima : LargeMaxima k w limit (cutPlate w h bytes limit out work)
   pub lightest : (g : List ℕ) → NowhereLighter g f → LargeMaxima k w limit g → NowhereLighter g (cutPlate w h bytes limit out work)
 
--- the size list: it is not refused; at each area it has the number of nodes, and the total of the cut at that area less that of the cut at one more;
--- all losses and the darkest grey over every pixel make the plate's total. `plain` is an output for the cuts
+-- the size list: it is not refused; at each area it has the number of nodes, and the grey lost, which with the total of the cut at one more makes the
+-- total of the cut at that area; all losses and the darkest grey over every pixel make the plate's total. `plain` is an output for the cuts
 pub record SizeClaim (k w h : ℕ) (f bytes counts losses work plain : List ℕ) : Type 0 where
   pub accepted : sizeHead bytes counts losses work
       ≡ record { refusal = 0; width = w; height = h; connectivity = k; nodes = length (nodesOf k w f); darkest = darkest f }
@@ -62,8 +63,8 @@ pub record SizeClaim (k w h : ℕ) (f bytes counts losses work plain : List ℕ)
       → nth (sizeCounts bytes counts losses work) (a - 1)
       ≡ area (length (nodesOf k w f)) (λ (i : ℕ). eqb (areaOf (length f) (touch k w) (grey f) (nodesOf k w f) i) a)
   pub grey-lost : (a : ℕ) → 1 ≤ a → a < w * h
-      → nth (sizeLosses bytes counts losses work) (a - 1)
-      ≡ total (cutPlate w h bytes a plain work) - total (cutPlate w h bytes (suc a) plain work)
+      → nth (sizeLosses bytes counts losses work) (a - 1) + total (cutPlate w h bytes (suc a) plain work)
+      ≡ total (cutPlate w h bytes a plain work)
   pub whole : sum (w * h - 1) (nth (sizeLosses bytes counts losses work)) + sizeHead bytes counts losses work .darkest * (w * h) ≡ total f
 
 -- all of it, for every limit from 1 to the pixels and whatever buffers of enough space

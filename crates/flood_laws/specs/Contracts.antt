@@ -7,7 +7,7 @@ use mathlib.Core.List.{List}
 use Prim.Native.Nat.{ℕ, suc, _+_, _*_, _/_, _%_, _≤_, _<_}
 use lib.Dec.{T, ltb, eqb}
 use Rattle.meaning.specs.Sets.{pick, area, sum}
-use Rattle.meaning.specs.Plate.{touch, connectivityFits, greatestGrey}
+use Rattle.meaning.specs.Plate.{touch, connectivityFits, greatestGrey, maxPixels, maxSide}
 use Rattle.work_columns.specs.Columns.{col, Room, Frame, Put, Stored}
 use Rattle.work_columns.specs.Layout.{GREY, OWN, STACK, FLOODAREA, FLOODPARENT, FloodedColumns}
 use Rattle.flood_directions.specs.Directions.{Beside}
@@ -55,8 +55,8 @@ stack wd n w i = pixelOf wd n (col STACK n w i)
 pub record Sizes (k wd ht n : ℕ) : Type 0 where
   pub kind : connectivityFits k ≡ true
   pub width : 0 < wd
-  pub wide : wd ≤ 32768
-  pub tall : ht ≤ 32768
+  pub wide : wd ≤ maxSide
+  pub tall : ht ≤ maxSide
   pub pixels : n ≡ ht * wd
 
 -- u: the lightest open level plus one; c: the current pixel, n where there is none
@@ -103,8 +103,8 @@ pub record Relinked (t t′ : List ℕ) (m u : ℕ) : Type 0 where
 pub record Nameable (t : List ℕ) (m u : ℕ) : Type 0 where
   pub table-room : Room t LEVELS
   pub inside : m < LEVELS
-  pub few : level COUNT t m < 16777216
-  pub spare : level NODES t 0 < 16777216
+  pub few : level COUNT t m < maxPixels
+  pub spare : level NODES t 0 < maxPixels
   pub chain : Chain LEVELS (level COUNT t) (level NEXT t) u
 
 -- the level m has one pixel more, and v is its node: a new one where the level was not open
@@ -234,4 +234,4 @@ pub record Summed (t t′ : List ℕ) (m s : ℕ) : Type 0 where
 -- the sums fit
 pub record Summable (t : List ℕ) : Type 0 where
   pub table-room : Room t LEVELS
-  pub small : sum LEVELS (level START t) ≤ 16777216
+  pub small : sum LEVELS (level START t) ≤ maxPixels

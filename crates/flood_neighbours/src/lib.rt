@@ -2,10 +2,8 @@
 ghost use mathlib.Core.Path.{_≡_};
 ghost use Prim.Native.Nat.{ℕ, _+_, _*_, _<_};
 ghost use Rattle.flood_laws.specs.Contracts.{Looking, Toward, Looked, LookedIn, UpperRow, LowerRow, Visited, Popped};
+use work_columns::OWN;
 use work_columns::get;
-
-// The columns of the work space (specs/Layout.antt of the crate `columns`).
-const OWN: usize = 1;
 
 // The pixels, the width, the height and the connectivity of a plate.
 pub struct Shape {

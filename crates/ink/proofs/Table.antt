@@ -1,6 +1,6 @@
 -- The rule of a table of ink percentages: one test that is computed over the whole table, and the law that turns it into the rule at each entry.
 use mathlib.Core.Path.{_≡_}
-use mathlib.Core.Bool.{Bool, true, false, _&&_}
+use mathlib.Core.Bool.{Bool, true, _&&_}
 use mathlib.Core.List.{List, [], _∷_}
 use Prim.Native.Nat.{ℕ, zero, suc, _+_, _-_, _*_, _<_}
 use native.Mathlib.Nat.{add-zero, zero-add}
@@ -9,15 +9,8 @@ use lib.Dec.{T, eqb, ltb, eqb→eq, ltb→lt}
 use lib.ListN.{length, getD}
 use Rattle.meaning.specs.Plate.{greatestGrey, apart}
 use Rattle.meaning.specs.Ink.{inkOf}
+use Rattle.theory_lists.proofs.Tests.{both-left, both-right}
 use Rattle.ink.specs.Percentage.{Percentage}
-
-both-left : (a b : Bool) → T (a && b) → T a
-both-left true b t = tt
-both-left false b t = t
-
-both-right : (a b : Bool) → T (a && b) → T b
-both-right true b t = t
-both-right false b t = absurd t
 
 -- the test passes at each entry of the list and its place, counted from i
 unfoldable pub every : (ℕ → ℕ → Bool) → ℕ → List ℕ → Bool

@@ -1,26 +1,23 @@
 // The operations for programs in C and Rust: one exported function for each, with the contract of the function that it calls.
 // A slice is passed as a pointer and a length. include/livukoe.h declares and describes the functions.
 ghost use mathlib.Core.Path.{_≡_};
-ghost use Prim.Native.Nat.{_*_};
 ghost use lib.ListN.{length};
-ghost use Rattle.meaning.specs.Answers.{cleanRefusal, maximaRefusal, outAfter};
-ghost use Rattle.meaning.specs.Opening.{opened, closed};
-ghost use Rattle.meaning.specs.Maxima.{marks};
-ghost use Rattle.plate_filter.specs.Operations.{Answered, NodesListed, columns};
+ghost use Rattle.meaning.specs.Answers.{outAfter};
+ghost use Rattle.plate_filter.specs.Operations.{Opened, Closed, MaximaMarked, NodesListed, columns};
 ghost use Rattle.record_parse.specs.Parse.{readOf};
 ghost use Rattle.record.specs.Writing.{WrittenRecord};
 ghost use Rattle.record.specs.Reading.{ReadRecord, CutRecord, ListedSizes};
 ghost use Rattle.plate_entries.specs.Entries.{EntriesListed};
-ghost use Rattle.record_write_cut_list.specs.Joint.{Joined};
+ghost use Rattle.record_write_cut_list.specs.WriteCutList.{WrittenCutListed};
 ghost use Rattle.pgm.specs.File.{readPgm, rasterOf};
 ghost use Rattle.ink.specs.Percentage.{Percentage};
 use pgm::PgmRead;
 use plate_entries::Node;
-use plate_filter::NodeList;
+use plate_tree::NodeList;
 use record::Head;
 use record::SizeHead;
 use record::Written;
-use record_write_cut_list::Joint;
+use record_write_cut_list::CutListed;
 
 // The area opening of a plate at a limit.
 #[no_mangle]
@@ -33,10 +30,7 @@ pub extern "C" fn livukoe_area_open(
     out: &mut [u8],
     work: &mut [u32],
 ) -> u32
-    ensures { λ r. ⌜ Answered
-        (cleanRefusal connectivity width height limit (length (now (image .entry))) (length (now (out .entry))) (length (now (work .entry))))
-        (opened connectivity width limit (now (image .entry)))
-        (width * height)
+    ensures { λ r. ⌜ Opened connectivity width height limit (now (image .entry))
         (now (out .entry)) (now (out .exit)) (now (work .entry)) (now (work .exit)) r ⌝ }
 {
     plate_filter::area_open(image, width, height, connectivity, limit, out, work)
@@ -53,10 +47,7 @@ pub extern "C" fn livukoe_area_close(
     out: &mut [u8],
     work: &mut [u32],
 ) -> u32
-    ensures { λ r. ⌜ Answered
-        (cleanRefusal connectivity width height limit (length (now (image .entry))) (length (now (out .entry))) (length (now (work .entry))))
-        (closed connectivity width limit (now (image .entry)))
-        (width * height)
+    ensures { λ r. ⌜ Closed connectivity width height limit (now (image .entry))
         (now (out .entry)) (now (out .exit)) (now (work .entry)) (now (work .exit)) r ⌝ }
 {
     plate_filter::area_close(image, width, height, connectivity, limit, out, work)
@@ -72,10 +63,7 @@ pub extern "C" fn livukoe_regional_maxima(
     out: &mut [u8],
     work: &mut [u32],
 ) -> u32
-    ensures { λ r. ⌜ Answered
-        (maximaRefusal connectivity width height (length (now (image .entry))) (length (now (out .entry))) (length (now (work .entry))))
-        (marks connectivity width (now (image .entry)))
-        (width * height)
+    ensures { λ r. ⌜ MaximaMarked connectivity width height (now (image .entry))
         (now (out .entry)) (now (out .exit)) (now (work .entry)) (now (work .exit)) r ⌝ }
 {
     plate_filter::regional_maxima(image, width, height, connectivity, out, work)
@@ -194,7 +182,7 @@ pub extern "C" fn livukoe_size_list(
     record::size_list(bytes, counts, losses, work)
 }
 
-// Writes the record of a plate, cuts it at a limit, and lists its sizes.
+// Writes the record of a plate, cuts it at a limit, and lists its sizes. A record that needs more bytes than were lent is refused by 5 after the work.
 #[no_mangle]
 pub extern "C" fn livukoe_write_cut_list(
     image: &[u8],
@@ -207,8 +195,8 @@ pub extern "C" fn livukoe_write_cut_list(
     counts: &mut [u32],
     losses: &mut [u64],
     work: &mut [u32],
-) -> Joint
-    ensures { λ r. ⌜ Joined connectivity width height limit (now (image .entry)) (now (bytes .entry)) (now (bytes .exit)) (now (out .entry)) (now (out .exit)) (now (counts .entry)) (now (counts .exit)) (now (losses .entry)) (now (losses .exit)) (now (work .entry)) (now (work .exit)) r ⌝ }
+) -> CutListed
+    ensures { λ r. ⌜ WrittenCutListed connectivity width height limit (now (image .entry)) (now (bytes .entry)) (now (bytes .exit)) (now (out .entry)) (now (out .exit)) (now (counts .entry)) (now (counts .exit)) (now (losses .entry)) (now (losses .exit)) (now (work .entry)) (now (work .exit)) r ⌝ }
 {
     record_write_cut_list::write_cut_list(
         image,

@@ -7,16 +7,11 @@ ghost use Rattle.meaning.specs.Answers.{over};
 ghost use Rattle.work_columns.specs.Columns.{col, Room};
 ghost use Rattle.work_columns.specs.Layout.{PARENT};
 ghost use Rattle.maxtree_values.specs.Values.{Parents, Cut, cutValue, Ones, Marked, Writable, outValue, Delivered, Copyable};
-
-const OWN: usize = 1;
-
-const LEVEL: usize = 3;
-
-const VALUE: usize = 4;
-
-const PARENT: usize = 5;
-
-const AREA: usize = 7;
+use work_columns::AREA;
+use work_columns::LEVEL;
+use work_columns::OWN;
+use work_columns::PARENT;
+use work_columns::VALUE;
 
 // The value of node i: its level where its area is at least the limit, else its parent's value.
 fn cut_value(w: &[u32], n: usize, limit: usize, i: usize) -> usize

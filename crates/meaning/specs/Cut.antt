@@ -22,7 +22,8 @@ module _ (n : ℕ) (near : ℕ → ℕ → Bool) (f : ℕ → ℕ) (xs : List �
   unfolding area holds
   countAt att a = area (length xs) (λ (j : ℕ). eqb (att (holds n near f xs j)) a)
 
-  -- the grey lost at a: the sum over the pixels of the cut at a minus the cut at a + 1
+  -- the grey lost at a: the sum over the pixels of the cut at a minus the cut at a + 1. No difference is cut off at 0, since the cut at a + 1 is nowhere
+  -- lighter than the cut at a: the grey lost and the total of the cut at a + 1 make the total of the cut at a (crate theorems, 7)
   unfoldable pub lostAt : ((ℕ → Bool) → ℕ) → ℕ → ℕ
   unfolding sum cutAt
   lostAt att a = sum n (λ (p : ℕ). cutAt (atLeast att a) p - cutAt (atLeast att (suc a)) p)
@@ -49,7 +50,7 @@ unfoldable pub counts : ℕ → ℕ → List ℕ → List ℕ
 unfolding countAt table touch nodesOf area
 counts k w f = table (length f - 1) (λ (i : ℕ). countAt (length f) (touch k w) (grey f) (nodesOf k w f) (attribute (length f)) (suc i))
 
--- and the grey lost
+-- and the grey lost at that area
 unfoldable pub losses : ℕ → ℕ → List ℕ → List ℕ
 unfolding lostAt table touch nodesOf area
 losses k w f = table (length f - 1) (λ (i : ℕ). lostAt (length f) (touch k w) (grey f) (nodesOf k w f) (attribute (length f)) (suc i))

@@ -27,7 +27,7 @@ Maximum n near g p =
 abbrev pub MaximaKept : ℕ → (ℕ → ℕ → Bool) → ((ℕ → Bool) → Bool) → (ℕ → ℕ) → Type 0
 MaximaKept n near keep g = (p : ℕ) → p < n → Maximum n near g p → T (keep (has (flatZone n near g p)))
 
--- the test: no pixel of the flat zone has an outside neighbour as light or lighter
+-- the test: no pixel of the flat zone has an outside neighbour as light or lighter. It passes exactly where `Maximum` holds (crate theorems, 8)
 unfoldable pub maximum : ℕ → (ℕ → ℕ → Bool) → (ℕ → ℕ) → ℕ → Bool
 unfolding flatZone some
 maximum n near g p =

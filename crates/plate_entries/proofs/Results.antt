@@ -14,14 +14,15 @@ use Rattle.work_columns.specs.Columns.{Room, col}
 use Rattle.work_columns.specs.Layout.{GREY}
 use Rattle.plate_greys.specs.Tree.{PlateTree}
 use Rattle.theory_lists.proofs.Lists.{table-same}
-use Rattle.plate_filter.specs.Operations.{Started}
-use Rattle.plate_filter.proofs.Results.{cleared-space, listed-count, nodes-same}
+use Rattle.plate_tree.specs.Listing.{Started}
+use Rattle.plate_tree.proofs.Nodes.{listed-count, nodes-same}
+use Rattle.plate_tree.proofs.Starting.{list-done, list-refused}
 use Rattle.plate_entries.specs.declared.Node.{Node}
 use Rattle.plate_entries.specs.Entries.{EntriesListed, Fillable, entries, nodeEntry, overNodes, standing}
 use Rattle.plate_entries.proofs.Lists.{filled-none}
 
 -- the entries that stand in the work space are the definition's
-module _ {k w : ℕ} {f work w₁ : List ℕ} {count : ℕ} (p : PlateTree false k w f work w₁ count) where
+module _ {k w h : ℕ} {f work w₁ : List ℕ} {count : ℕ} (p : PlateTree false k w h f work w₁ count) where
   standing-entries : table count (standing (length f) w₁) ≡ entries k w f
   unfolding standing entries
   standing-entries =
@@ -49,19 +50,17 @@ module _ {k w h : ℕ} {f : List ℕ} (list : List Node) {work w₁ : List ℕ} 
 
   -- the list that was filled, and the work space that was zeroed
   pub entries-listed : (r count : ℕ) {list′ : List Node} {w₂ : List ℕ} → Started k w h f (length list) work w₁ r count
-      → list′ ≡ overNodes (table count (standing (length f) w₁)) list → w₂ ≡ pick (eqb r 0) (replicate (8 * length f) 0 ++ drop (8 * length f) w₁) w₁
+      → list′ ≡ overNodes (table count (standing (length f) w₁)) list
+      → w₂ ≡ pick (eqb r 0) (replicate (8 * length f) 0 ++ drop (8 * length f) w₁) w₁
       → EntriesListed k w h f list list′ work w₂ r count
   entries-listed zero count s e c = record {
-    number = s .number;
-    counted = s .counted;
+    answer = list-done s refl c;
     nodes = e ∙ ap (λ (xs : List Node). overNodes xs list) (standing-entries (s .tree-stands refl));
-    space = cleared-space (s .pixels refl) (s .tree-stands refl .frame) c;
   }
   entries-listed (suc r) count {list′} {w₂} s e c =
       let z : count ≡ 0 = s .counted ∙ rw (not-zero r) in
+      let same : w₂ ≡ w₁ = c ∙ rw (not-zero r) in
       record {
-        number = s .number;
-        counted = s .counted;
+        answer = rw same (list-refused s (λ x. omega (arith, x)));
         nodes = rw (not-zero r) (e ∙ rw z (filled-none (standing (length f) w₁) list));
-        space = (c ∙ rw (not-zero r)) ∙ s .stopped (λ x. omega (arith, x));
       }

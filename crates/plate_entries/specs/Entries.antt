@@ -2,16 +2,15 @@
 use mathlib.Core.Path.{_≡_}
 use mathlib.Core.Bool.{Bool}
 use mathlib.Core.List.{List, _++_}
-use Prim.Native.Nat.{ℕ, _*_, _≤_, _<_}
+use Prim.Native.Nat.{ℕ, _≤_, _<_}
 use lib.Dec.{eqb}
 use lib.ListN.{length, drop}
-use Rattle.meaning.specs.Answers.{began, workAfter}
 use Rattle.meaning.specs.Nodes.{areaOf, levelOf, nodesOf, parent}
 use Rattle.meaning.specs.Plate.{grey, touch}
 use Rattle.meaning.specs.Sets.{nth, pick, table}
 use Rattle.work_columns.specs.Columns.{Room, col}
 use Rattle.work_columns.specs.Layout.{ANCHOR, AREA, LEVEL, PARENT}
-use Rattle.plate_filter.specs.Operations.{nodeListRefusal}
+use Rattle.plate_tree.specs.Listing.{ListAnswered}
 use Rattle.plate_entries.specs.declared.Node.{Node}
 
 abbrev pub entry : ℕ → ℕ → ℕ → ℕ → Node
@@ -37,10 +36,8 @@ entries k w f = table (length (nodesOf k w f)) (nodeEntry (length f) (touch k w)
 
 -- h: the height; list and work as they were lent, list′ and work′ as they are left
 pub record EntriesListed (k w h : ℕ) (f : List ℕ) (list list′ : List Node) (work work′ : List ℕ) (refusal count : ℕ) : Type 0 where
-  pub number : refusal ≡ nodeListRefusal k w h f (length list) (length work)
-  pub counted : count ≡ pick (eqb refusal 0) (length (nodesOf k w f)) 0
+  pub answer : ListAnswered k w h f (length list) work work′ refusal count
   pub nodes : list′ ≡ pick (eqb refusal 0) (overNodes (entries k w f) list) list
-  pub space : work′ ≡ workAfter (began refusal) (w * h) work
 
 -- ---- filling a list from the columns of n entries in the work space w
 

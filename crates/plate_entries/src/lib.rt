@@ -8,14 +8,11 @@ ghost use lib.ListN.{drop, getD, replicate};
 ghost use Rattle.meaning.specs.Sets.{pick, table};
 ghost use Rattle.work_columns.specs.Columns.{Room};
 ghost use Rattle.plate_entries.specs.Entries.{EntriesListed, Fillable, none, overNodes, standing};
-
-const ANCHOR: usize = 2;
-
-const LEVEL: usize = 3;
-
-const PARENT: usize = 5;
-
-const AREA: usize = 7;
+use plate_tree::NodeList;
+use work_columns::ANCHOR;
+use work_columns::AREA;
+use work_columns::LEVEL;
+use work_columns::PARENT;
 
 // A node: its level, its parent's number (0 for the root), its area and its anchor.
 #[repr(C)]
@@ -69,13 +66,13 @@ pub fn node_entries(
     connectivity: u32,
     list: &mut [Node],
     work: &mut [u32],
-) -> plate_filter::NodeList
+) -> NodeList
     ensures { λ r. ⌜ EntriesListed connectivity width height (now (image .entry)) (now (list .entry)) (now (list .exit))
         (now (work .entry)) (now (work .exit)) (r .refusal) (r .count) ⌝ }
 {
     let n = image.len();
     let places = list.len();
-    let answer = plate_filter::start_list(image, width, height, connectivity, places, work);
+    let answer = plate_tree::start_list(image, width, height, connectivity, places, work);
     let count = answer.count as usize;
     fill(list, work, n, count);
     let refusal = answer.refusal;

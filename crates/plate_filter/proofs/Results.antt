@@ -1,20 +1,20 @@
 -- From the columns of the work space to the definitions: the values of the nodes are the opening's greys, or the marks of the maxima; the columns are
 -- those of the node list.
-use mathlib.Core.Path.{_≡_, refl, sym, ap, _∙_}
+use mathlib.Core.Path.{_≡_, sym, ap, _∙_}
 use mathlib.Core.Bool.{Bool, true, false, not, _&&_}
-use mathlib.Core.List.{List, _++_}
-use Prim.Native.Nat.{ℕ, _+_, _-_, _*_, _≤_, _<_}
+use mathlib.Core.List.{List}
+use Prim.Native.Nat.{ℕ, _-_, _≤_, _<_}
 use native.Mathlib.Omega.{arith}
 use lib.Dec.{T, leb, ltb, eqb, leb→le, nleb→lt, not-T, T-not, eqb→eq, eqb-refl, ltb→lt, lt→ltb}
-use lib.ListN.{length, drop, replicate}
+use lib.ListN.{length}
 use lib.Seq.{ext-getD}
 use borrow.Author.Tests.{ne-eqb}
-use Rattle.meaning.specs.Component.{grown, same}
+use Rattle.meaning.specs.Component.{same}
 use Rattle.meaning.specs.Maxima.{marks, maximum}
-use Rattle.meaning.specs.Nodes.{anchors, areaOf, holds, nodesOf, own, parent}
+use Rattle.meaning.specs.Nodes.{anchors, areaOf, holds, own, parent}
 use Rattle.meaning.specs.Opening.{Criterion, atLeast, attribute, opened, openedAt}
 use Rattle.meaning.specs.Paths.{here}
-use Rattle.meaning.specs.Plate.{greatestGrey, grey, touch}
+use Rattle.meaning.specs.Plate.{Plate, greatestGrey, touch}
 use Rattle.meaning.specs.Sets.{area, bit, nth, table}
 use Rattle.theory_lists.proofs.Lists.{getD-table, length-table, table-same}
 use Rattle.theory_lists.proofs.Sets.{greatest-le, some-elim, some-intro}
@@ -33,7 +33,8 @@ use Rattle.plate_greys.specs.View.{view, viewed}
 use Rattle.plate_greys.proofs.Views.{view-grey, view-length}
 use Rattle.maxtree_values.specs.Values.{Cut, Delivered, Marked, Parents, Valued, Writable, hasChild, outValue}
 use Rattle.maxtree_values.proofs.Values.{cut-value-no, cut-value-yes}
-use Rattle.plate_filter.specs.Operations.{Answered, cleaned, column}
+use Rattle.plate_tree.proofs.Nodes.{cleared-space, listed-count, nodes-same}
+use Rattle.plate_filter.specs.Operations.{PlateAnswered, cleaned, column}
 
 -- a plate that is viewed, from the values that are viewed
 pub view-table : (negated : Bool) (n : ℕ) (g : ℕ → ℕ) → view negated (table n g) ≡ table n (λ (p : ℕ). viewed negated (g p))
@@ -45,14 +46,9 @@ view-table negated n g =
     let m : p < n = rw len at l in
     view-grey negated (table n g) p (rw (length-table n g) m) ∙ rw (getD-table n g p 0 m) (sym (getD-table n g′ p 0 m)))
 
--- the anchors of a plate's nodes
-nodes-are : (k wd : ℕ) (f : List ℕ) → nodesOf k wd f ≡ anchors greatestGrey (length f) (touch k wd) (grey f)
-unfolding nodesOf
-nodes-are k wd f = refl
-
 -- ---- the tree of the plate f, or of its negative, in the work space w
 
-module _ {negated : Bool} {k wd : ℕ} {f v w : List ℕ} {count : ℕ} (p : PlateTree negated k wd f v w count) where
+module _ {negated : Bool} {k wd ht : ℕ} {f v w : List ℕ} {count : ℕ} (p : PlateTree negated k wd ht f v w count) where
   abbrev n : ℕ
   n = length f
 
@@ -156,7 +152,7 @@ bit-low : (b : Bool) → bit b ≤ greatestGrey
 bit-low true = omega arith
 bit-low false = omega arith
 
-module _ {k wd : ℕ} {f v w : List ℕ} {count : ℕ} (p : PlateTree false k wd f v w count) where
+module _ {k wd ht : ℕ} {f v w : List ℕ} {count : ℕ} (p : PlateTree false k wd ht f v w count) where
   -- node j is the parent of node i
   child : ℕ → ℕ → Bool
   child j i = ltb 0 i && eqb (col PARENT (n p) w i) j
@@ -187,7 +183,9 @@ module _ {k wd : ℕ} {f v w : List ℕ} {count : ℕ} (p : PlateTree false k wd
     mark-is : (q : ℕ) → q < n p → col VALUE (n p) w′ (col OWN (n p) w′ q) ≡ bit (maximum (n p) (near p) (g p) q)
     mark-is q l =
         value-own p (c .valued) (λ (j : ℕ). bit (not (hasChild count (col PARENT (n p) w) j))) (c .values) q l
-        ∙ ap bit (same-test (not (hasChild count (col PARENT (n p) w) (own (n p) (near p) (g p) (xs p) q))) (maximum (n p) (near p) (g p) q) (childless-maximum q l) (maximum-childless q l))
+        ∙ ap bit
+        (same-test (not (hasChild count (col PARENT (n p) w) (own (n p) (near p) (g p) (xs p) q))) (maximum (n p) (near p) (g p) q)
+        (childless-maximum q l) (maximum-childless q l))
 
     pub mark-writable : Writable (n p) w′
     mark-writable = writable p (c .valued) (λ q l. rw (mark-is q l) (bit-low (maximum (n p) (near p) (g p) q)))
@@ -199,30 +197,25 @@ module _ {k wd : ℕ} {f v w : List ℕ} {count : ℕ} (p : PlateTree false k wd
 
   -- ---- the columns of the node list
 
-  pub nodes-same : xs p ≡ nodesOf k wd f
-  nodes-same = rw (nodes-are k wd f, p .same)
-
-  pub listed-count : count ≡ length (nodesOf k wd f)
-  listed-count = p .facts .tree .nodes ∙ ap length nodes-same
-
   pub listed : (c : ℕ) (of : (n : ℕ) (near : ℕ → ℕ → Bool) (f : ℕ → ℕ) (xs : List ℕ) → ℕ → ℕ)
       → ((i : ℕ) → i < count → col c (n p) w i ≡ of (n p) (near p) (g p) (xs p) i)
       → table count (col c (n p) w) ≡ column k wd f of
   unfolding column
-  listed c of e = table-same count (col c (n p) w) (of (n p) (near p) (g p) (xs p)) e ∙ rw (listed-count, nodes-same, p .same)
+  listed c of e = table-same count (col c (n p) w) (of (n p) (near p) (g p) (xs p)) e ∙ rw (listed-count p, nodes-same p, p .same)
 
 -- ---- what an operation leaves
 
--- a refusal
-pub answered-refused : {refusal pixels r : ℕ} {answer out work : List ℕ} → r ≡ refusal → (r ≡ 0 → ⊥) → Answered refusal answer pixels out out work work r
-answered-refused {r = r} e x = record { number = e; output = rw (ne-eqb r 0 x); space = rw (ne-eqb r 0 x) }
+module _ {k w h : ℕ} {f : List ℕ} {refusal r : ℕ} {answer out work : List ℕ} (e : r ≡ refusal) where
+  -- a refusal
+  pub answered-refused : (r ≡ 0 → ⊥) → PlateAnswered k w h f refusal answer out out work work r
+  answered-refused x = record { number = e; output = rw (ne-eqb r 0 x); space = rw (ne-eqb r 0 x); accepted = λ z. absurd (x z) }
 
--- the work space at the end, by what it was at the start
-pub cleared-space : {n pixels : ℕ} {work w w′ : List ℕ} → n ≡ pixels → Frame n work w → w′ ≡ replicate (8 * n) 0 ++ drop (8 * n) w
-    → w′ ≡ replicate (8 * pixels) 0 ++ drop (8 * pixels) work
-cleared-space e a c = c ∙ rw (a .tail, e)
-
--- an answer
-pub answered : {negated : Bool} {refusal pixels n r : ℕ} {answer out out′ work w w′ : List ℕ} → r ≡ refusal → r ≡ 0 → n ≡ pixels → Frame n work w
-    → Delivered negated n w w′ out out′ → table n (outValue negated n w) ≡ answer → Answered refusal answer pixels out out′ work w′ 0
-answered e z long a d t = record { number = sym z ∙ e; output = d .written ∙ rw t; space = cleared-space long a (d .cleared) }
+  -- an answer
+  pub answered : {negated : Bool} {out′ w₁ w₂ : List ℕ} → r ≡ 0 → Plate k w h f → Frame (length f) work w₁ → Delivered negated (length f) w₁ w₂ out out′
+      → table (length f) (outValue negated (length f) w₁) ≡ answer → PlateAnswered k w h f refusal answer out out′ work w₂ 0
+  answered z plate a d t = record {
+    number = sym z ∙ e;
+    output = d .written ∙ rw t;
+    space = cleared-space plate a (d .cleared);
+    accepted = λ _. plate;
+  }

@@ -1,19 +1,12 @@
 // Area opening and closing, regional maxima, and the node list of a plate: operations that callers use, and that require nothing.
 ghost use mathlib.Core.Path.{_≡_};
-ghost use Prim.Native.Nat.{_*_, min};
-ghost use lib.ListN.{length};
-ghost use Rattle.meaning.specs.Answers.{cleanRefusal, maximaRefusal};
-ghost use Rattle.meaning.specs.Opening.{opened, closed};
-ghost use Rattle.meaning.specs.Maxima.{marks};
-ghost use Rattle.plate_filter.specs.Operations.{Answered, cleaned, NodesListed, Started, columns, shortest, Lent, ColumnsWritten};
-
-const ANCHOR: usize = 2;
-
-const LEVEL: usize = 3;
-
-const PARENT: usize = 5;
-
-const AREA: usize = 7;
+ghost use Prim.Native.Nat.{min};
+ghost use Rattle.plate_filter.specs.Operations.{Cleaned, Opened, Closed, MaximaMarked, NodesListed, cleaned, columns, shortest, Lent, ColumnsWritten};
+use plate_tree::NodeList;
+use work_columns::ANCHOR;
+use work_columns::AREA;
+use work_columns::LEVEL;
+use work_columns::PARENT;
 
 // Opens a plate, or closes it: opens its negative.
 fn clean(
@@ -26,10 +19,7 @@ fn clean(
     out: &mut [u8],
     work: &mut [u32],
 ) -> u32
-    ensures { λ r. ⌜ Answered
-        (cleanRefusal connectivity width height limit (length (now (image .entry))) (length (now (out .entry))) (length (now (work .entry))))
-        (cleaned negated connectivity width limit (now (image .entry)))
-        (width * height)
+    ensures { λ r. ⌜ Cleaned connectivity width height limit (now (image .entry)) (cleaned negated connectivity width limit (now (image .entry)))
         (now (out .entry)) (now (out .exit)) (now (work .entry)) (now (work .exit)) r ⌝ }
 {
     let n = image.len();
@@ -61,10 +51,7 @@ pub fn area_open(
     out: &mut [u8],
     work: &mut [u32],
 ) -> u32
-    ensures { λ r. ⌜ Answered
-        (cleanRefusal connectivity width height limit (length (now (image .entry))) (length (now (out .entry))) (length (now (work .entry))))
-        (opened connectivity width limit (now (image .entry)))
-        (width * height)
+    ensures { λ r. ⌜ Opened connectivity width height limit (now (image .entry))
         (now (out .entry)) (now (out .exit)) (now (work .entry)) (now (work .exit)) r ⌝ }
 {
     clean(image, width, height, connectivity, limit, false, out, work)
@@ -80,10 +67,7 @@ pub fn area_close(
     out: &mut [u8],
     work: &mut [u32],
 ) -> u32
-    ensures { λ r. ⌜ Answered
-        (cleanRefusal connectivity width height limit (length (now (image .entry))) (length (now (out .entry))) (length (now (work .entry))))
-        (closed connectivity width limit (now (image .entry)))
-        (width * height)
+    ensures { λ r. ⌜ Closed connectivity width height limit (now (image .entry))
         (now (out .entry)) (now (out .exit)) (now (work .entry)) (now (work .exit)) r ⌝ }
 {
     clean(image, width, height, connectivity, limit, true, out, work)
@@ -98,10 +82,7 @@ pub fn regional_maxima(
     out: &mut [u8],
     work: &mut [u32],
 ) -> u32
-    ensures { λ r. ⌜ Answered
-        (maximaRefusal connectivity width height (length (now (image .entry))) (length (now (out .entry))) (length (now (work .entry))))
-        (marks connectivity width (now (image .entry)))
-        (width * height)
+    ensures { λ r. ⌜ MaximaMarked connectivity width height (now (image .entry))
         (now (out .entry)) (now (out .exit)) (now (work .entry)) (now (work .exit)) r ⌝ }
 {
     let n = image.len();
@@ -122,23 +103,6 @@ pub fn regional_maxima(
     0
 }
 
-// What the node list answers: its refusal, or 0 and the number of nodes.
-#[repr(C)]
-pub struct NodeList {
-    pub refusal: u32,
-    pub count: u32,
-}
-
-// A refusal gives its number, and zeros elsewhere.
-fn refused(refusal: u32) -> NodeList
-    ensures { λ r. ⌜ (r .refusal ≡ refusal) × (r .count ≡ 0) ⌝ }
-{
-    NodeList {
-        refusal: refusal,
-        count: 0,
-    }
-}
-
 // The lesser of two numbers.
 fn lesser(a: usize, b: usize) -> usize
     ensures { λ r. ⌜ r ≡ min a b ⌝ }
@@ -151,34 +115,6 @@ fn shortest(a: usize, b: usize, c: usize, d: usize) -> usize
     ensures { λ r. ⌜ r ≡ shortest a b c d ⌝ }
 {
     lesser(lesser(a, b), lesser(c, d))
-}
-
-// Starts a node list with so many places: the plate's component tree stands in the work space, or the list is refused.
-pub fn start_list(
-    image: &[u8],
-    width: u32,
-    height: u32,
-    connectivity: u32,
-    places: usize,
-    work: &mut [u32],
-) -> NodeList
-    ensures { λ r. ⌜ Started connectivity width height (now (image .entry)) places
-        (now (work .entry)) (now (work .exit)) (r .refusal) (r .count) ⌝ }
-{
-    let n = image.len();
-    let refusal = plate_refusals::tree_refusal(connectivity, width, height, n, work.len());
-    if refusal != 0 {
-        return refused(refusal);
-    }
-    let count = plate_tree::plate_tree(image, false, width, height, connectivity, work);
-    if places < count {
-        work_columns::clear(work, n);
-        return refused(5);
-    }
-    NodeList {
-        refusal: 0,
-        count: count as u32,
-    }
 }
 
 // Writes the columns of the nodes.
@@ -220,7 +156,7 @@ pub fn node_list(
         (now (work .entry)) (now (work .exit)) (r .refusal) (r .count) ⌝ }
 {
     let places = shortest(levels.len(), parents.len(), areas.len(), anchors.len());
-    let list = start_list(image, width, height, connectivity, places, work);
+    let list = plate_tree::start_list(image, width, height, connectivity, places, work);
     if list.refusal != 0 {
         return list;
     }

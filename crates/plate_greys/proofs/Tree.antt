@@ -1,18 +1,18 @@
 -- The facts that every operation on the tree starts from.
-use mathlib.Core.Path.{_≡_, _∙_}
-use mathlib.Core.Bool.{Bool, true}
+use mathlib.Core.Path.{_∙_}
+use mathlib.Core.Bool.{Bool}
 use mathlib.Core.List.{List}
-use Prim.Native.Nat.{ℕ, _*_}
-use native.Mathlib.Nat.{le-trans, mul-comm}
+use Prim.Native.Nat.{ℕ}
+use native.Mathlib.Nat.{le-trans}
 use native.Mathlib.Omega.{arith}
 use lib.ListN.{length}
 use Rattle.meaning.specs.Nodes.{anchors}
 use Rattle.meaning.specs.Paths.{Grid}
-use Rattle.meaning.specs.Plate.{greatestGrey, gridFits, touch}
+use Rattle.meaning.specs.Plate.{greatestGrey, touch}
 use Rattle.meaning.specs.Sets.{elem}
 use Rattle.theory_lists.proofs.Lists.{distinct-area}
 use Rattle.theory_lists.proofs.Sets.{area-le}
-use Rattle.theory_connectivity.proofs.Touch.{touch-grid}
+use Rattle.theory_connectivity.proofs.Touch.{fits-grid}
 use Rattle.theory_tree.specs.Tree.{Nodes}
 use Rattle.theory_tree.proofs.Nodes.{anchors-nodes, nodes-distinct, some-node}
 use Rattle.work_columns.specs.Columns.{Room, col}
@@ -22,19 +22,13 @@ use Rattle.plate_refusals.proofs.Refusals.{Taken, plate-taken, taken-few}
 use Rattle.theory_connectivity.proofs.Sizes.{Sizes, grid-sizes}
 use Rattle.plate_greys.specs.Tree.{TreeFacts, Loaded, PlateTree, Ready}
 
--- the grid of a plate that fits
-pub fit-grid : (k w h n : ℕ) → gridFits w h ≡ true → n ≡ w * h → Grid n (touch k w)
-fit-grid k w h n fits e =
-    let s : Sizes w h = grid-sizes w h fits in
-    rw (e ∙ mul-comm w h) (touch-grid k w h (s .wide .least))
-
 -- the tree's nodes: at least one, at most one for each pixel
 pub grow : {k wd ht n : ℕ} {w w′ : List ℕ} {count : ℕ} → Buildable k wd ht n w → Built k wd n w w′ count → TreeFacts k wd n w′ count
 grow {k} {wd} {ht} {n} {w} {w′} {count} can did =
     let near : ℕ → ℕ → Bool = touch k wd in
     let f : ℕ → ℕ = col GREY n w′ in
     let xs : List ℕ = anchors greatestGrey n near f in
-    let grid : Grid n near = fit-grid k wd ht n (can .sizes) (can .pixels) in
+    let grid : Grid n near = fits-grid k wd ht n (can .sizes) (can .pixels) in
     let nodes : Nodes n near f xs = anchors-nodes grid f greatestGrey (did .tree .greys) in
     let s : Sizes wd ht = grid-sizes wd ht (can .sizes) in
     record {
@@ -68,8 +62,9 @@ module _ {k w h : ℕ} {f work : List ℕ} (can : Ready k w h f work) where
       greys = copied .greys;
     }
 
-    pub tree-stands : {work″ : List ℕ} {count : ℕ} → Built k w (length f) work′ work″ count → PlateTree negated k w f work work″ count
+    pub tree-stands : {work″ : List ℕ} {count : ℕ} → Built k w (length f) work′ work″ count → PlateTree negated k w h f work work″ count
     tree-stands did = record {
+      plate = record { kind = taken .kind; sizes = taken .grid; long = taken .long; greys = copied .bytes };
       frame = frame-trans (copied .frame) (did .frame);
       room = frame-room ready-room (frame-trans (copied .frame) (did .frame));
       same = did .same ∙ copied .same;

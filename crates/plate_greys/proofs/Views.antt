@@ -78,4 +78,5 @@ module _ {negated : Bool} {f w : List ℕ} where
     same = column-plate GREY (length f) w′ (view negated f) (view-length negated f)
         (λ p m. a .done p (omega arith) ∙ sym (view-grey negated f p m));
     greys = λ p m. omega (arith, a .done p (omega arith), viewed-low negated (grey f p) (low p));
+    bytes = λ p m. low p;
   }

@@ -7,7 +7,7 @@ use lib.ListN.{length}
 use Rattle.meaning.specs.Answers.{plateRefusal}
 use Rattle.meaning.specs.Nodes.{anchors}
 use Rattle.meaning.specs.Paths.{Grid}
-use Rattle.meaning.specs.Plate.{greatestGrey, grey, touch}
+use Rattle.meaning.specs.Plate.{Plate, greatestGrey, grey, touch}
 use Rattle.theory_tree.specs.Tree.{Nodes}
 use Rattle.work_columns.specs.Columns.{Frame, Room, col}
 use Rattle.work_columns.specs.Layout.{GREY, Greys, TreeColumns}
@@ -18,11 +18,12 @@ pub record Ready (k w h : ℕ) (f work : List ℕ) : Type 0 where
   pub taken : plateRefusal k w h (length f) 0 ≡ 0
   pub room : 8 * (w * h) ≤ length work
 
--- the greys are copied in
+-- the greys of f, or of its negative, are copied in; no grey of f is above the greatest
 pub record Loaded (negated : Bool) (f work work′ : List ℕ) : Type 0 where
   pub frame : Frame (length f) work work′
   pub same : col GREY (length f) work′ ≡ grey (view negated f)
   pub greys : Greys (length f) work′
+  pub bytes : (p : ℕ) → p < length f → grey f p ≤ greatestGrey
 
 -- the component tree of the greys in the work space, with the facts that every operation on it starts from
 pub record TreeFacts (k wd n : ℕ) (w : List ℕ) (count : ℕ) : Type 0 where
@@ -32,8 +33,9 @@ pub record TreeFacts (k wd n : ℕ) (w : List ℕ) (count : ℕ) : Type 0 where
   pub some-nodes : 0 < count
   pub few-nodes : count ≤ n
 
--- the tree of the plate, or of its negative, stands in the work space
-pub record PlateTree (negated : Bool) (k wd : ℕ) (f work work′ : List ℕ) (count : ℕ) : Type 0 where
+-- f is an accepted plate, and its tree, or its negative's, stands in the work space
+pub record PlateTree (negated : Bool) (k wd ht : ℕ) (f work work′ : List ℕ) (count : ℕ) : Type 0 where
+  pub plate : Plate k wd ht f
   pub frame : Frame (length f) work work′
   pub room : Room work′ (length f)
   pub same : col GREY (length f) work′ ≡ grey (view negated f)

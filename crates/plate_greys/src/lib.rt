@@ -1,4 +1,4 @@
-// A plate in the work space: its greys, or those of its negative, are copied in, and its component tree is built.
+// The greys of a plate, or of its negative, are copied into the work space.
 ghost use mathlib.Core.Path.{_≡_};
 ghost use Prim.Native.Nat.{_≤_};
 ghost use lib.ListN.{length};
@@ -6,6 +6,7 @@ ghost use Rattle.meaning.specs.Plate.{greatestGrey};
 ghost use Rattle.work_columns.specs.Columns.{Room};
 ghost use Rattle.plate_greys.specs.View.{viewed};
 ghost use Rattle.plate_greys.specs.Tree.{Loaded};
+use work_columns::GREY;
 
 // A grey, or its negative.
 pub fn view(negated: bool, grey: usize) -> usize
@@ -24,7 +25,7 @@ pub fn load(image: &[u8], negated: bool, work: &mut [u32])
     let mut p: usize = 0;
     while p < n {
         let g = view(negated, image[p] as usize);
-        work_columns::put(work, n, 0, p, g);
+        work_columns::put(work, n, GREY, p, g);
         p += 1;
     }
 }

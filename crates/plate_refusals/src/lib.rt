@@ -14,7 +14,7 @@ pub fn connectivity_fits(connectivity: u32) -> bool
 }
 
 // Is a side, a width or a height, within the grid?
-pub fn side_fits(side: u32) -> bool
+fn side_fits(side: u32) -> bool
     ensures { λ r. ⌜ r ≡ (leb 1 side && leb side maxSide) ⌝ }
 {
     1 <= side && side <= 32768
@@ -33,7 +33,7 @@ pub fn grid_fits(width: u32, height: u32) -> bool
 }
 
 // The first of the refusals 1, 2 and 3 that applies, else 0.
-pub fn plate_refusal(connectivity: u32, width: u32, height: u32, length: usize) -> u32
+fn plate_refusal(connectivity: u32, width: u32, height: u32, length: usize) -> u32
     ensures { λ r. ⌜ r ≡ plateRefusal connectivity width height length 0 ⌝ }
 {
     if !connectivity_fits(connectivity) {

@@ -1,5 +1,7 @@
-// The component tree of a plate, from the plate to the columns of the work space.
+// The component tree of a plate, from the plate to the columns of the work space, and the start of a node list from it.
+ghost use mathlib.Core.Path.{_≡_};
 ghost use Rattle.plate_greys.specs.Tree.{Ready, PlateTree};
+ghost use Rattle.plate_tree.specs.Listing.{Started};
 
 // Builds the component tree of a plate, or of its negative, in the work space. Returns the number of nodes.
 pub fn plate_tree(
@@ -11,7 +13,7 @@ pub fn plate_tree(
     work: &mut [u32],
 ) -> usize
     requires { ⌜ Ready connectivity width height (now image) (now work) ⌝ }
-    ensures { λ r. ⌜ PlateTree negated connectivity width (now (image .entry)) (now (work .entry)) (now (work .exit)) r ⌝ }
+    ensures { λ r. ⌜ PlateTree negated connectivity width height (now (image .entry)) (now (work .entry)) (now (work .exit)) r ⌝ }
 {
     plate_greys::load(image, negated, work);
     let n = image.len();
@@ -22,4 +24,49 @@ pub fn plate_tree(
         height as usize,
         connectivity as usize,
     )
+}
+
+// What the node list answers: its refusal, or 0 and the number of nodes.
+#[repr(C)]
+pub struct NodeList {
+    pub refusal: u32,
+    pub count: u32,
+}
+
+// A refusal gives its number, and zeros elsewhere.
+fn refused(refusal: u32) -> NodeList
+    ensures { λ r. ⌜ (r .refusal ≡ refusal) × (r .count ≡ 0) ⌝ }
+{
+    NodeList {
+        refusal: refusal,
+        count: 0,
+    }
+}
+
+// Starts a node list with so many places: the plate's component tree stands in the work space, or the list is refused.
+pub fn start_list(
+    image: &[u8],
+    width: u32,
+    height: u32,
+    connectivity: u32,
+    places: usize,
+    work: &mut [u32],
+) -> NodeList
+    ensures { λ r. ⌜ Started connectivity width height (now (image .entry)) places
+        (now (work .entry)) (now (work .exit)) (r .refusal) (r .count) ⌝ }
+{
+    let n = image.len();
+    let refusal = plate_refusals::tree_refusal(connectivity, width, height, n, work.len());
+    if refusal != 0 {
+        return refused(refusal);
+    }
+    let count = plate_tree(image, false, width, height, connectivity, work);
+    if places < count {
+        work_columns::clear(work, n);
+        return refused(5);
+    }
+    NodeList {
+        refusal: 0,
+        count: count as u32,
+    }
 }

@@ -17,15 +17,17 @@ use Rattle.theory_connectivity.proofs.Sizes.{grid-sizes}
 use Rattle.theory_lists.proofs.Tests.{neither, passes, tests}
 use Rattle.plate_refusals.proofs.Refusals.{refuse-none}
 use Rattle.record_parse.specs.Parse.{Parsed}
-use Rattle.record_fields.specs.Fields.{plateIn}
-use Rattle.record_fields.proofs.Standing.{standing-plate}
+use Rattle.record_parse.specs.Steps.{greysIn}
 use Rattle.record_cut.specs.Standing.{CutWritten, OfPlate, SizesWritten, Stands, TablesFit}
 use Rattle.record_tree.specs.Found.{GreysStand}
 use Rattle.record_tree.proofs.Finding.{TreeFound, cleared}
 use Rattle.record.specs.Reading.{CutRecord, ListedSizes, ReadRecord}
 
 module _ {P : Parsed} {wd ht k count : ℕ} {work w₁ : List ℕ} (t : TreeFound P wd ht k work w₁ count) where
-  long : length (t .f) ≡ wd * ht
+  abbrev f : List ℕ
+  f = greysIn (wd * ht) w₁
+
+  long : length f ≡ wd * ht
   long = t .standing .plate .long
 
   -- the pixels
@@ -39,20 +41,19 @@ module _ {P : Parsed} {wd ht k count : ℕ} {work w₁ : List ℕ} (t : TreeFoun
   tree-room = rw (← long) (t .standing .room)
 
   pub tree-stands : Stands (wd * ht) w₁ count
-  tree-stands = record { k = k; wd = wd; ht = ht; f = t .f; standing = t .standing; pixels = long }
+  tree-stands = record { k = k; wd = wd; ht = ht; f = f; standing = t .standing; pixels = long }
 
   -- ---- reading
 
   pub read-greys : {out : List ℕ} → wd * ht ≤ length out → GreysStand (wd * ht) w₁ out
   read-greys l = record { room = tree-room; greys = rw (← long) (t .standing .facts .tree .greys); places = l }
 
-  pub read-done : {out out′ w₂ : List ℕ} → wd * ht ≤ length out → out′ ≡ over (plateIn (wd * ht) w₁) out
+  pub read-done : {out out′ w₂ : List ℕ} → wd * ht ≤ length out → out′ ≡ over (greysIn (wd * ht) w₁) out
       → w₂ ≡ replicate (8 * (wd * ht)) 0 ++ drop (8 * (wd * ht)) w₁
       → ReadRecord P out out′ work w₂ (record { refusal = 0; width = wd; height = ht; connectivity = k })
   read-done {out} l e c =
       let z : ltb (length out) (wd * ht) ≡ false = le-ltb (length out) (wd * ht) l in
-      let plain : plateIn (wd * ht) w₁ ≡ t .f = standing-plate (t .standing) (wd * ht) (sym long) in
-      rw (t .is) (record { answer = rw z; output = rw z (rw plain at e); space = cleared (t .frame) c })
+      rw (t .is) (record { answer = rw z; output = rw z e; space = cleared (t .frame) c })
 
   -- ---- cutting
 
@@ -73,17 +74,17 @@ module _ {P : Parsed} {wd ht k count : ℕ} {work w₁ : List ℕ} (t : TreeFoun
         let y : refuse (not (leb 1 limit && leb limit (wd * ht))) 4 (outRefusal (wd * ht) (length out) 0) ≡ 0 = sym e ∙ z in
         rw (t .is) (record {
           answer = rw y;
-          output = rw y (d .written k wd ht (t .f) (t .standing) long);
+          output = rw y (d .written k wd ht f (t .standing) long);
           space = cleared (frame-trans (t .frame) (d .frame)) c;
         })
 
   -- ---- the size list
 
-  pub tree-nodes : count ≡ length (nodesOf k wd (t .f))
+  pub tree-nodes : count ≡ length (nodesOf k wd f)
   unfolding nodesOf
   tree-nodes =
       t .standing .facts .tree .nodes
-      ∙ ap (λ (g : ℕ → ℕ). length (anchors greatestGrey (length (t .f)) (touch k wd) g)) (t .standing .same)
+      ∙ ap (λ (g : ℕ → ℕ). length (anchors greatestGrey (length f) (touch k wd) g)) (t .standing .same)
 
   -- the number of nodes fits
   pub tree-nodes-few : count ≤ 16777216
@@ -99,11 +100,11 @@ module _ {P : Parsed} {wd ht k count : ℕ} {work w₁ : List ℕ} (t : TreeFoun
         → ((m : ℕ) → OfPlate (wd * ht) w₁ m (λ k wd f. d ≡ darkest f)) → w₂ ≡ replicate (8 * (wd * ht)) 0 ++ drop (8 * (wd * ht)) w₁
         → ListedSizes P counted counted′ lost lost′ work w₂ (record { refusal = 0; width = wd; height = ht; connectivity = k; nodes = count; darkest = d })
     sizes-done s d c =
-        let nodes : count ≡ length (nodesOf k wd (t .f)) = tree-nodes in
-        let dark = d count k wd ht (t .f) (t .standing) long in
+        let nodes : count ≡ length (nodesOf k wd f) = tree-nodes in
+        let dark = d count k wd ht f (t .standing) long in
         rw (t .is) (record {
           answer = rw (z, nodes, dark);
-          count-table = rw z (s .counted-is k wd ht (t .f) (t .standing) long);
-          loss-table = rw z (s .lost-is k wd ht (t .f) (t .standing) long);
+          count-table = rw z (s .counted-is k wd ht f (t .standing) long);
+          loss-table = rw z (s .lost-is k wd ht f (t .standing) long);
           space = cleared (t .frame) c;
         })

@@ -10,12 +10,13 @@ use lib.ListN.{length, drop, replicate}
 use borrow.Author.Tests.{ne-eqb, lt-ltb}
 use types.Run.{OneOf}
 use denote.Enum.Declared.{tagOf}
-use Rattle.meaning.specs.Answers.{outRefusal, refuse}
+use Rattle.meaning.specs.Answers.{outRefusal, refuse, workAfter}
 use Rattle.work_columns.specs.Columns.{Frame}
-use Rattle.record_parse.specs.Parse.{Parsed, plate}
+use Rattle.record_parse.specs.Parse.{Parsed, early, late, plate}
 use Rattle.record_tree.specs.declared.Found.{Found}
 use Rattle.record_tree.proofs.Found.{the-type}
-use Rattle.record_tree.specs.Found.{FoundIs, ahead, behind, stands, clearedBy, numberOf}
+use Rattle.record_tree.specs.declared.Found.the-variants.{Early, Late, Tree}
+use Rattle.record_tree.specs.Found.{FoundIs, clearedBy, foundNumber}
 use Rattle.record_tree.proofs.Finding.{cleared}
 use Rattle.record.specs.declared.Head.{Head}
 use Rattle.record.specs.declared.SizeHead.{SizeHead}
@@ -34,26 +35,32 @@ noSizes number = record { refusal = number; width = 0; height = 0; connectivity 
 abbrev pub NoTree : Found → Type 0
 NoTree t = OneOf (0 ∷ 1 ∷ []) (tagOf the-type t)
 
-no-tree : {X : Type 0} → (_≡_ {A = ℕ} 2 0) ⊎ (_≡_ {A = ℕ} 2 1) → X
-no-tree m = absurd (⊎-elim (λ z. omega arith) (λ z. omega arith) m)
+-- the refusal of P by `number`, with the work space as it is then
+pub data Stopped : Parsed → List ℕ → List ℕ → ℕ → Type 0 where
+  unchanged : {work : List ℕ} {number : ℕ} → Stopped (early number) work work number
+  zeroed : {work work′ : List ℕ} {number pixels : ℕ} → work′ ≡ workAfter true pixels work → Stopped (late number pixels) work work′ number
 
-pub read-stopped : {P : Parsed} {t : Found} (out : List ℕ) {work w₁ w₂ : List ℕ} {number : ℕ} → FoundIs P work w₁ t → NoTree t
-    → number ≡ numberOf t → w₂ ≡ clearedBy t w₁ → ReadRecord P out out work w₂ (noHead number)
-read-stopped out ahead other e c = rw e (record { answer = refl; output = refl; space = c })
-read-stopped out (behind r f) other e c = rw e (record { answer = refl; output = refl; space = cleared f c })
-read-stopped out (stands f s) other e c = no-tree other
+pub stopped : {P : Parsed} (t : Found) {work w₁ w₂ : List ℕ} {number : ℕ} → FoundIs P work w₁ t → NoTree t → number ≡ foundNumber t → w₂ ≡ clearedBy t w₁
+    → Stopped P work w₂ number
+stopped (Early m) x other e c = rw (← (x .answer), e, c, x .space) unchanged
+stopped (Late m pixels) x other e c = rw (← (x .answer), e) (zeroed (cleared (x .space .1) c))
+stopped (Tree wd ht k count) x other e c =
+    let m : (_≡_ {A = ℕ} 2 0) ⊎ (_≡_ {A = ℕ} 2 1) = other in
+    absurd (⊎-elim (λ z. omega arith) (λ z. omega arith) m)
 
-pub cut-stopped : {P : Parsed} {t : Found} (limit : ℕ) (out : List ℕ) {work w₁ w₂ : List ℕ} {number : ℕ} → FoundIs P work w₁ t → NoTree t
-    → number ≡ numberOf t → w₂ ≡ clearedBy t w₁ → CutRecord P limit out out work w₂ (noHead number)
-cut-stopped limit out ahead other e c = rw e (record { answer = refl; output = refl; space = c })
-cut-stopped limit out (behind r f) other e c = rw e (record { answer = refl; output = refl; space = cleared f c })
-cut-stopped limit out (stands f s) other e c = no-tree other
+pub read-stopped : {P : Parsed} {work w₂ : List ℕ} {number : ℕ} (out : List ℕ) → Stopped P work w₂ number → ReadRecord P out out work w₂ (noHead number)
+read-stopped out unchanged = record { answer = refl; output = refl; space = refl }
+read-stopped out (zeroed c) = record { answer = refl; output = refl; space = c }
 
-pub sizes-stopped : {P : Parsed} {t : Found} (counted lost : List ℕ) {work w₁ w₂ : List ℕ} {number : ℕ} → FoundIs P work w₁ t → NoTree t
-    → number ≡ numberOf t → w₂ ≡ clearedBy t w₁ → ListedSizes P counted counted lost lost work w₂ (noSizes number)
-sizes-stopped counted lost ahead other e c = rw e (record { answer = refl; count-table = refl; loss-table = refl; space = c })
-sizes-stopped counted lost (behind r f) other e c = rw e (record { answer = refl; count-table = refl; loss-table = refl; space = cleared f c })
-sizes-stopped counted lost (stands f s) other e c = no-tree other
+pub cut-stopped : {P : Parsed} {work w₂ : List ℕ} {number : ℕ} (limit : ℕ) (out : List ℕ) → Stopped P work w₂ number
+    → CutRecord P limit out out work w₂ (noHead number)
+cut-stopped limit out unchanged = record { answer = refl; output = refl; space = refl }
+cut-stopped limit out (zeroed c) = record { answer = refl; output = refl; space = c }
+
+pub sizes-stopped : {P : Parsed} {work w₂ : List ℕ} {number : ℕ} (counted lost : List ℕ) → Stopped P work w₂ number
+    → ListedSizes P counted counted lost lost work w₂ (noSizes number)
+sizes-stopped counted lost unchanged = record { answer = refl; count-table = refl; loss-table = refl; space = refl }
+sizes-stopped counted lost (zeroed c) = record { answer = refl; count-table = refl; loss-table = refl; space = c }
 
 -- ---- the operations' own conditions, on a plate
 

@@ -1,4 +1,4 @@
--- Reading a record, cutting it, its size list. Each starts from what reading finds up to 24 (`readOf` of the crate `parse`).
+-- Reading a record, cutting it, its size list. Each starts from what reading finds up to 24 (`readOf` of the crate `record_parse`).
 use mathlib.Core.Bool.{true, _||_}
 use mathlib.Core.Path.{_≡_}
 use mathlib.Core.List.{List}
@@ -15,10 +15,10 @@ use Rattle.record.specs.declared.SizeHead.{SizeHead}
 
 -- ---- for all three: the refusal up to 24, then the operation's own conditions on the plate
 
-abbrev pub refusalOf : Parsed → (ℕ → ℕ → ℕ) → ℕ
-refusalOf (early number) own = number
-refusalOf (late number pixels) own = number
-refusalOf (plate k w h f) own = own w h
+abbrev pub parsedRefusal : Parsed → (ℕ → ℕ → ℕ) → ℕ
+parsedRefusal (early number) own = number
+parsedRefusal (late number pixels) own = number
+parsedRefusal (plate k w h f) own = own w h
 
 -- the work space: untouched by 6 and ahead of it, else zeroed
 abbrev pub parsedWork : Parsed → List ℕ → List ℕ
@@ -42,7 +42,7 @@ parsedOut refusal (plate k w h f) answer out = outAfter refusal (answer k w f) o
 -- ---- reading: 5
 
 abbrev pub readRefusal : Parsed → ℕ → ℕ
-readRefusal p out = refusalOf p λ w h. outRefusal (w * h) out 0
+readRefusal p out = parsedRefusal p λ w h. outRefusal (w * h) out 0
 
 abbrev pub readOut : Parsed → List ℕ → List ℕ
 readOut p out = parsedOut (readRefusal p (length out)) p (λ k w f. f) out
@@ -50,7 +50,7 @@ readOut p out = parsedOut (readRefusal p (length out)) p (λ k w f. f) out
 -- ---- cutting: 4, 5
 
 abbrev pub cutRefusal : Parsed → ℕ → ℕ → ℕ
-cutRefusal p limit out = refusalOf p λ w h. limitRefusal w h limit (outRefusal (w * h) out 0)
+cutRefusal p limit out = parsedRefusal p λ w h. limitRefusal w h limit (outRefusal (w * h) out 0)
 
 abbrev pub cutOut : Parsed → ℕ → List ℕ → List ℕ
 cutOut p limit out = parsedOut (cutRefusal p limit (length out)) p (λ k w f. cut k w limit f) out
@@ -58,7 +58,7 @@ cutOut p limit out = parsedOut (cutRefusal p limit (length out)) p (λ k w f. cu
 -- ---- size list: 5 when either table has fewer than pixels - 1 places
 
 abbrev pub sizeRefusal : Parsed → ℕ → ℕ → ℕ
-sizeRefusal p countPlaces lossPlaces = refusalOf p λ w h. refuse (ltb countPlaces (w * h - 1) || ltb lossPlaces (w * h - 1)) 5 0
+sizeRefusal p countPlaces lossPlaces = parsedRefusal p λ w h. refuse (ltb countPlaces (w * h - 1) || ltb lossPlaces (w * h - 1)) 5 0
 
 abbrev pub sizeHeadOf : ℕ → Parsed → SizeHead
 sizeHeadOf refusal (early number) = record { refusal = refusal; width = 0; height = 0; connectivity = 0; nodes = 0; darkest = 0 }

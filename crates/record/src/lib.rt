@@ -37,7 +37,16 @@ pub struct SizeHead {
     pub darkest: u32,
 }
 
-// The answer that refuses: the number, and zeros elsewhere.
+// The answers that refuse: the number, and zeros elsewhere.
+fn refused_written(number: u32) -> Written
+    ensures { λ r. ⌜ r ≡ record { refusal = number; length = 0 } ⌝ }
+{
+    Written {
+        refusal: number,
+        length: 0,
+    }
+}
+
 fn refused_head(number: u32) -> Head
     ensures { λ r. ⌜ r ≡ record { refusal = number; width = 0; height = 0; connectivity = 0 } ⌝ }
 {
@@ -106,19 +115,13 @@ pub fn write_record(
     let n = image.len();
     let refusal = plate_refusals::tree_refusal(connectivity, width, height, n, work.len());
     if refusal != 0 {
-        return Written {
-            refusal: refusal,
-            length: 0,
-        };
+        return refused_written(refusal);
     }
     let count = plate_tree::plate_tree(image, false, width, height, connectivity, work);
     let size = record_fields::measure(work, n, width, height, connectivity, count);
     if out.len() < size {
         work_columns::clear(work, n);
-        return Written {
-            refusal: 5,
-            length: 0,
-        };
+        return refused_written(5);
     }
     record_fields::write(work, n, width, height, connectivity, count, out);
     work_columns::clear(work, n);

@@ -133,7 +133,8 @@ module _ {limit n count : ℕ} {w : List ℕ} where
               (q .put .other j (omega (arith, can .few)) (λ x. omega arith) ∙ rw (p .off VALUE (omega arith) (λ x. omega arith)) (a .done .values j b))
           | no b ↦
               (let x : j ≡ i = omega arith in
-              rw (x, here) (q .put .here ∙ e ∙ rw (p .off LEVEL (omega arith) (λ x. omega arith), a .done .off LEVEL (omega arith) (λ x. omega arith) (λ x. omega arith))))
+              rw (x, here) (q .put .here ∙ e
+              ∙ rw (p .off LEVEL (omega arith) (λ x. omega arith), a .done .off LEVEL (omega arith) (λ x. omega arith) (λ x. omega arith))))
         ];
       };
       rest = λ j g h. other j (λ x. omega arith) h ∙ a .rest j (omega arith) h;

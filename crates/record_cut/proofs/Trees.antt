@@ -30,7 +30,7 @@ use Rattle.work_columns.proofs.Columns.{frame-room}
 use Rattle.plate_greys.specs.Standing.{Standing}
 use Rattle.maxtree_values.specs.Values.{Writable, outValue}
 use Rattle.record_cut.specs.Climbs.{Climb, Climbable, ClimbedAll, enough, too-small}
-use Rattle.record_cut.specs.Sizes.{Listable, byArea, lossOf, tally}
+use Rattle.record_cut.specs.Sizes.{SizesListable, byArea, lossOf, tally}
 use Rattle.record_cut.specs.Standing.{CutWritten, OfPlate, SizesWritten, Stands}
 use Rattle.record_cut.proofs.Tally.{tally-cong, tally-one}
 
@@ -151,7 +151,7 @@ module _ {k wd ht : ℕ} {f w : List ℕ} {count : ℕ} (s : Standing k wd ht f 
   unfolding areaOf
   area-most j = area-le n (holds n near (grey f) xs j)
 
-  pub listable : Listable n w count
+  pub listable : SizesListable n w count
   listable = record {
     room = s .room;
     some-nodes = s .facts .some-nodes;
@@ -180,7 +180,8 @@ module _ {k wd ht : ℕ} {f w : List ℕ} {count : ℕ} (s : Standing k wd ht f 
   -- the nodes of each area
   pub listed-counts : byArea n w (λ (j : ℕ). 1) count ≡ counts k wd f
   unfolding counts countAt areaOf
-  listed-counts = table-same (n - 1) (λ (i : ℕ). tally (col AREA n w) (λ (j : ℕ). 1) count (suc i)) (λ (i : ℕ). countAt n near (grey f) xs (attribute n) (suc i)) (λ i l.
+  listed-counts =
+      table-same (n - 1) (λ (i : ℕ). tally (col AREA n w) (λ (j : ℕ). 1) count (suc i)) (λ (i : ℕ). countAt n near (grey f) xs (attribute n) (suc i)) (λ i l.
       tally-cong (col AREA n w) (λ (j : ℕ). 1) (areaOf n near (grey f) xs) (λ (j : ℕ). 1) count (suc i) (λ j h. rw (area-is j h))
       ∙ rw count-is (tally-one (areaOf n near (grey f) xs) (length xs) (suc i)))
 
@@ -193,11 +194,13 @@ module _ {k wd ht : ℕ} {f w : List ℕ} {count : ℕ} (s : Standing k wd ht f 
       ∙ sym (pick-no (eqb (areaOf n near (grey f) xs 0) a) (areaOf n near (grey f) xs 0 * rise n near (grey f) xs 0) 0
       (λ t. omega (arith, root-area grid nodes, eqb→eq (areaOf n near (grey f) xs 0) a t)))
   loss-same a h (suc j) l =
-      rw (area-is (suc j) l, level-is (suc j) l, parent-is (suc j) l, level-is (parent n near (grey f) xs (suc j)) (omega (arith, parent-below grid nodes (suc j) (omega arith))))
+      let below : parent n near (grey f) xs (suc j) < count = omega (arith, parent-below grid nodes (suc j) (omega arith)) in
+      rw (area-is (suc j) l, level-is (suc j) l, parent-is (suc j) l, level-is (parent n near (grey f) xs (suc j)) below)
 
   pub listed-losses : byArea n w (lossOf n w) count ≡ losses k wd f
   unfolding losses tally
-  listed-losses = table-same (n - 1) (λ (i : ℕ). tally (col AREA n w) (lossOf n w) count (suc i)) (λ (i : ℕ). lostAt n near (grey f) xs (attribute n) (suc i)) (λ i l.
+  listed-losses =
+      table-same (n - 1) (λ (i : ℕ). tally (col AREA n w) (lossOf n w) count (suc i)) (λ (i : ℕ). lostAt n near (grey f) xs (attribute n) (suc i)) (λ i l.
       tally-cong (col AREA n w) (lossOf n w) (areaOf n near (grey f) xs) (λ (j : ℕ). areaOf n near (grey f) xs j * rise n near (grey f) xs j) count (suc i)
       (loss-same (suc i) (omega arith))
       ∙ rw count-is (sym (lost-is-sum (s .plate) (suc i) (omega arith))))
@@ -223,7 +226,7 @@ module _ {n count : ℕ} {w : List ℕ} where
     written = λ k wd ht f s x. e ∙ rw (← settled-cut s limit (rw x m) (rw (← x) at a), x);
   }
 
-  pub stands-listable : Stands n w count → Listable n w count
+  pub stands-listable : Stands n w count → SizesListable n w count
   stands-listable t = rw (t .pixels) at (listable (t .standing))
 
   pub sizes-written : {counted counted′ lost lost′ : List ℕ} → counted′ ≡ over (byArea n w (λ (j : ℕ). 1) count) counted

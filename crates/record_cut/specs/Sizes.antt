@@ -8,6 +8,10 @@ use Rattle.meaning.specs.Sets.{pick, sum, table}
 use Rattle.work_columns.specs.Columns.{Room, col}
 use Rattle.work_columns.specs.Layout.{AREA, LEVEL, PARENT}
 
+-- m zeros
+abbrev pub zeros : ℕ → List ℕ
+zeros m = table m (λ (i : ℕ). 0)
+
 -- what the first k nodes add at a, where node j adds v j at c j
 unfoldable pub tally : (c v : ℕ → ℕ) → ℕ → ℕ → ℕ
 unfolding sum
@@ -31,7 +35,7 @@ pub record Inner (n : ℕ) (w : List ℕ) (j : ℕ) : Type 0 where
   pub rises : col LEVEL n w (col PARENT n w j) ≤ col LEVEL n w j
 
 -- the root is the whole plate, and every other node a part of it
-pub record Listable (n : ℕ) (w : List ℕ) (count : ℕ) : Type 0 where
+pub record SizesListable (n : ℕ) (w : List ℕ) (count : ℕ) : Type 0 where
   pub room : Room w n
   pub some-nodes : 0 < count
   pub few : count ≤ n

@@ -9,7 +9,7 @@ ghost use Rattle.meaning.specs.Sets.{table};
 ghost use Rattle.work_columns.specs.Columns.{Room, col};
 ghost use Rattle.work_columns.specs.Layout.{AREA, PARENT};
 ghost use Rattle.record_cut.specs.Climbs.{Climb, Climbable, ClimbedAll};
-ghost use Rattle.record_cut.specs.Sizes.{Inner, Listable, byArea, lossOf};
+ghost use Rattle.record_cut.specs.Sizes.{Inner, SizesListable, byArea, lossOf, zeros};
 ghost use Rattle.record_cut.specs.Standing.{CutWritten, OfPlate, SizesWritten, Stands, TablesFit};
 
 const LEVEL: usize = 3;
@@ -59,25 +59,15 @@ pub fn cut_plate(w: &mut [u32], n: usize, count: usize, limit: usize, out: &mut 
     maxtree_values::write_values(w, n, false, out);
 }
 
-// Sets the first m counts to zero.
-fn clear_counts(counts: &mut [u32], m: usize)
-    requires { ⌜ m ≤ length (now counts) ⌝ }
-    ensures { λ _. ⌜ now (counts .exit) ≡ over (table m (λ (i : ℕ). 0)) (now (counts .entry)) ⌝ }
+// Sets the first m entries of both tables to zero.
+fn clear_tables(counts: &mut [u32], losses: &mut [u64], m: usize)
+    requires { ⌜ (m ≤ length (now counts)) × (m ≤ length (now losses)) ⌝ }
+    ensures { λ _. ⌜ now (counts .exit) ≡ over (zeros m) (now (counts .entry)) ⌝ }
+    ensures { λ _. ⌜ now (losses .exit) ≡ over (zeros m) (now (losses .entry)) ⌝ }
 {
     let mut i: usize = 0;
     while i < m {
         counts[i] = 0;
-        i += 1;
-    }
-}
-
-// Sets the first m losses to zero.
-fn clear_losses(losses: &mut [u64], m: usize)
-    requires { ⌜ m ≤ length (now losses) ⌝ }
-    ensures { λ _. ⌜ now (losses .exit) ≡ over (table m (λ (i : ℕ). 0)) (now (losses .entry)) ⌝ }
-{
-    let mut i: usize = 0;
-    while i < m {
         losses[i] = 0;
         i += 1;
     }
@@ -96,14 +86,12 @@ fn loss_of(w: &[u32], n: usize, j: usize) -> usize
     area * (level - below)
 }
 
-// The number of nodes of each area from 1 to n - 1.
+// Counts the nodes of each area from 1 to n - 1 in a table that is zero there.
 fn count_areas(w: &[u32], n: usize, count: usize, counts: &mut [u32])
-    requires { ⌜ Listable n (now w) count ⌝ }
-    requires { ⌜ n - 1 ≤ length (now counts) ⌝ }
+    requires { ⌜ SizesListable n (now w) count ⌝ }
+    requires { ⌜ (n - 1 ≤ length (now counts)) × (now counts ≡ over (zeros (n - 1)) (now counts)) ⌝ }
     ensures { λ _. ⌜ now (counts .exit) ≡ over (byArea n (now (w .entry)) (λ (j : ℕ). 1) count) (now (counts .entry)) ⌝ }
 {
-    let end = n - 1;
-    clear_counts(counts, end);
     let mut j: usize = 1;
     while j < count {
         let place = work_columns::get(w, n, AREA, j) - 1;
@@ -112,14 +100,12 @@ fn count_areas(w: &[u32], n: usize, count: usize, counts: &mut [u32])
     }
 }
 
-// The grey lost with the nodes of each area from 1 to n - 1.
+// Adds up the grey lost with the nodes of each area from 1 to n - 1 in a table that is zero there.
 fn sum_losses(w: &[u32], n: usize, count: usize, losses: &mut [u64])
-    requires { ⌜ Listable n (now w) count ⌝ }
-    requires { ⌜ n - 1 ≤ length (now losses) ⌝ }
+    requires { ⌜ SizesListable n (now w) count ⌝ }
+    requires { ⌜ (n - 1 ≤ length (now losses)) × (now losses ≡ over (zeros (n - 1)) (now losses)) ⌝ }
     ensures { λ _. ⌜ now (losses .exit) ≡ over (byArea n (now (w .entry)) (lossOf n (now (w .entry))) count) (now (losses .entry)) ⌝ }
 {
-    let end = n - 1;
-    clear_losses(losses, end);
     let mut i: usize = 1;
     while i < count {
         let place = work_columns::get(w, n, AREA, i) - 1;
@@ -135,6 +121,8 @@ pub fn list_sizes(w: &[u32], n: usize, count: usize, counts: &mut [u32], losses:
     requires { ⌜ TablesFit n (now counts) (now losses) ⌝ }
     ensures { λ _. ⌜ SizesWritten n count (now (w .entry)) (now (counts .entry)) (now (counts .exit)) (now (losses .entry)) (now (losses .exit)) ⌝ }
 {
+    let end = n - 1;
+    clear_tables(counts, losses, end);
     count_areas(w, n, count, counts);
     sum_losses(w, n, count, losses);
 }

@@ -12,7 +12,7 @@ use Rattle.theory_lists.proofs.Lists.{getD-table, length-table}
 use Rattle.theory_lists.proofs.Sets.{below-suc}
 use Rattle.work_columns.specs.Columns.{col}
 use Rattle.work_columns.specs.Layout.{AREA, LEVEL, OWN, PARENT}
-use Rattle.record_fields.specs.Fields.{Raised, columnFields, nodeColumns}
+use Rattle.record_fields.specs.Fields.{ParentFits, columnFields, nodeColumns}
 
 -- ---- lists of three, one after the other
 
@@ -56,7 +56,7 @@ module _ (n : ℕ) (w : List ℕ) (i : ℕ) where
   node-area part size e is = rw (e, is)
 
   -- the level of the parent is not above that of the node
-  pub node-rises : (u level below : ℕ) → Raised n w i → u ≡ col PARENT n w i → level ≡ col LEVEL n w i → below ≡ col LEVEL n w u → below ≤ level
+  pub node-rises : (u level below : ℕ) → ParentFits n w i → u ≡ col PARENT n w i → level ≡ col LEVEL n w i → below ≡ col LEVEL n w u → below ≤ level
   node-rises u level below r is high low = rw (high, low, is) (r .rises)
 
 -- ---- the fields by place
@@ -87,10 +87,10 @@ module _ (k wd ht n : ℕ) (w : List ℕ) (count : ℕ) (some-nodes : 0 < count)
   column-end i l = omega (arith, column-length)
 
   -- after the first six
-  behind-six : (j : ℕ) → nth (columnFields k wd ht n w count) (6 + j)
+  after-six : (j : ℕ) → nth (columnFields k wd ht n w count) (6 + j)
       ≡ nth (gather (count - 1) (λ (i : ℕ). nodeColumns n w (suc i)) ++ table n (col OWN n w)) j
   unfolding columnFields
-  behind-six j =
+  after-six j =
       getD-append-add (wd ∷ ht ∷ k ∷ count ∷ col LEVEL n w 0 ∷ col AREA n w 0 ∷ [])
       (gather (count - 1) (λ (i : ℕ). nodeColumns n w (suc i)) ++ table n (col OWN n w)) j 0
 
@@ -98,7 +98,7 @@ module _ (k wd ht n : ℕ) (w : List ℕ) (count : ℕ) (some-nodes : 0 < count)
   pub column-node : (a b : ℕ) → suc a < count → b < 3
       → nth (columnFields k wd ht n w count) (6 + (3 * a + b)) ≡ nth (nodeColumns n w (suc a)) b
   column-node a b l h =
-      behind-six (3 * a + b)
+      after-six (3 * a + b)
       ∙ List·getD-append (gather (count - 1) (λ (i : ℕ). nodeColumns n w (suc i))) (table n (col OWN n w)) 0 (3 * a + b) (omega (arith, nodes-length))
       ∙ gather-nth (count - 1) (λ (i : ℕ). nodeColumns n w (suc i)) node-three a b (omega arith) h
 
@@ -107,7 +107,7 @@ module _ (k wd ht n : ℕ) (w : List ℕ) (count : ℕ) (some-nodes : 0 < count)
   column-own p l =
       let e : 3 * count + 3 + p ≡ 6 + (3 * (count - 1) + p) = omega arith in
       ap (λ (i : ℕ). nth (columnFields k wd ht n w count) i) e
-      ∙ behind-six (3 * (count - 1) + p)
+      ∙ after-six (3 * (count - 1) + p)
       ∙ ap (λ (x : ℕ). nth (gather (count - 1) (λ (i : ℕ). nodeColumns n w (suc i)) ++ table n (col OWN n w)) (x + p)) (sym nodes-length)
       ∙ getD-append-add (gather (count - 1) (λ (i : ℕ). nodeColumns n w (suc i))) (table n (col OWN n w)) p 0
       ∙ getD-table n (col OWN n w) p 0 l

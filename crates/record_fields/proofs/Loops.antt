@@ -15,7 +15,8 @@ use Rattle.record_varint.specs.Field.{comparison, sameAt}
 use Rattle.record_varint.proofs.Loops.{Matched, Measured, Wrote, matched-differs, matched-done, matched-first, matched-more, measured-done, measured-first, measured-more, wrote-done, wrote-first, wrote-more, wrote-room}
 use Rattle.record_parse.specs.Parse.{sameBytes}
 use Rattle.plate_greys.specs.Standing.{Standing}
-use Rattle.record_fields.specs.Fields.{Spelt, columnFields, plateIn}
+use Rattle.record_parse.specs.Steps.{greysIn}
+use Rattle.record_fields.specs.Fields.{TreeSpelt, columnFields}
 use Rattle.record_fields.proofs.Bytes.{starts-differ, starts-same}
 use Rattle.record_fields.proofs.Fields.{column-end, column-inside}
 use Rattle.record_fields.proofs.Standing.{standing-record, standing-spelt}
@@ -23,12 +24,13 @@ use Rattle.record_fields.proofs.Standing.{standing-record, standing-spe
 -- ---- measuring
 
 pub record Measuring (k wd ht n : ℕ) (w : List ℕ) (count i size : ℕ) : Type 0 where
-  pub spelt : Spelt n w count
+  pub spelt : TreeSpelt n w count
   pub within : i ≤ 3 * count + 3 + n
   pub measured : Measured (columnFields k wd ht n w count) i size
 
-pub measuring-first : {k wd ht : ℕ} (n : ℕ) {w : List ℕ} {count : ℕ} → Standing k wd ht (plateIn n w) w count → Measuring k wd ht n w count 0 0
-measuring-first {k} {wd} {ht} n {w} {count} s = record { spelt = standing-spelt n s; within = omega arith; measured = measured-first (columnFields k wd ht n w count) }
+pub measuring-first : {k wd ht : ℕ} (n : ℕ) {w : List ℕ} {count : ℕ} → Standing k wd ht (greysIn n w) w count → Measuring k wd ht n w count 0 0
+measuring-first {k} {wd} {ht} n {w} {count} s =
+    record { spelt = standing-spelt n s; within = omega arith; measured = measured-first (columnFields k wd ht n w count) }
 
 module _ {k wd ht n : ℕ} {w : List ℕ} {count i size : ℕ} (m : Measuring k wd ht n w count i size) where
   pub measuring-more : {v b : ℕ} → i < 3 * count + 3 + n → v ≡ nth (columnFields k wd ht n w count) i → b ≡ length (varint v)
@@ -40,7 +42,7 @@ module _ {k wd ht n : ℕ} {w : List ℕ} {count i size : ℕ} (m : Measuring k 
         (column-inside k wd ht n w count (m .spelt .some-nodes) i l) (long ∙ ap (λ (x : ℕ). length (varint x)) is);
   }
 
-  pub measuring-done : 3 * count + 3 + n ≤ i → Standing k wd ht (plateIn n w) w count → size ≡ length (recordOf k wd ht (plateIn n w))
+  pub measuring-done : 3 * count + 3 + n ≤ i → Standing k wd ht (greysIn n w) w count → size ≡ length (recordOf k wd ht (greysIn n w))
   measuring-done l s =
       measured-done (columnFields k wd ht n w count) i size (m .measured) (column-end k wd ht n w count (m .spelt .some-nodes) i l)
       ∙ sym (ap length (standing-record n s))
@@ -48,13 +50,13 @@ module _ {k wd ht n : ℕ} {w : List ℕ} {count i size : ℕ} (m : Measuring k 
 -- ---- writing into d, which is o by now
 
 pub record Writing (k wd ht n : ℕ) (w : List ℕ) (count : ℕ) (d o : List ℕ) (i at : ℕ) : Type 0 where
-  pub spelt : Spelt n w count
+  pub spelt : TreeSpelt n w count
   pub within : i ≤ 3 * count + 3 + n
   pub enough : length (encode (columnFields k wd ht n w count)) ≤ length d
   pub wrote : Wrote (columnFields k wd ht n w count) d o i at
 
-pub writing-first : {k wd ht : ℕ} (n : ℕ) {w : List ℕ} {count : ℕ} (d : List ℕ) → Standing k wd ht (plateIn n w) w count
-    → length (recordOf k wd ht (plateIn n w)) ≤ length d → Writing k wd ht n w count d d 0 0
+pub writing-first : {k wd ht : ℕ} (n : ℕ) {w : List ℕ} {count : ℕ} (d : List ℕ) → Standing k wd ht (greysIn n w) w count
+    → length (recordOf k wd ht (greysIn n w)) ≤ length d → Writing k wd ht n w count d d 0 0
 writing-first {k} {wd} {ht} n {w} {count} d s l = record {
   spelt = standing-spelt n s;
   within = omega arith;
@@ -78,7 +80,7 @@ module _ {k wd ht n : ℕ} {w : List ℕ} {count : ℕ} {d o : List ℕ} {i at :
         (column-inside k wd ht n w count (m .spelt .some-nodes) i l) is after e;
   }
 
-  pub writing-done : 3 * count + 3 + n ≤ i → Standing k wd ht (plateIn n w) w count → o ≡ over (recordOf k wd ht (plateIn n w)) d
+  pub writing-done : 3 * count + 3 + n ≤ i → Standing k wd ht (greysIn n w) w count → o ≡ over (recordOf k wd ht (greysIn n w)) d
   writing-done l s =
       rw (standing-record n s)
       (wrote-done (columnFields k wd ht n w count) d o i at (m .wrote) (m .enough) (column-end k wd ht n w count (m .spelt .some-nodes) i l))
@@ -86,11 +88,11 @@ module _ {k wd ht n : ℕ} {w : List ℕ} {count : ℕ} {d o : List ℕ} {i at :
 -- ---- comparing the bytes s
 
 pub record Comparing (k wd ht n : ℕ) (w : List ℕ) (count : ℕ) (s : List ℕ) (i at : ℕ) : Type 0 where
-  pub spelt : Spelt n w count
+  pub spelt : TreeSpelt n w count
   pub within : i ≤ 3 * count + 3 + n
   pub matched : Matched (columnFields k wd ht n w count) s i at
 
-pub comparing-first : {k wd ht : ℕ} (n : ℕ) {w : List ℕ} {count : ℕ} (s : List ℕ) → Standing k wd ht (plateIn n w) w count
+pub comparing-first : {k wd ht : ℕ} (n : ℕ) {w : List ℕ} {count : ℕ} (s : List ℕ) → Standing k wd ht (greysIn n w) w count
     → Comparing k wd ht n w count s 0 0
 comparing-first {k} {wd} {ht} n {w} {count} s t = record {
   spelt = standing-spelt n t;
@@ -109,15 +111,15 @@ module _ {k wd ht n : ℕ} {w : List ℕ} {count : ℕ} {s : List ℕ} {i at : �
   }
 
   pub comparing-differs : {v : ℕ} {r : Comparison} → i < 3 * count + 3 + n → v ≡ nth (columnFields k wd ht n w count) i
-      → comparison v r ≡ sameAt s at v → r ≡ Different → Standing k wd ht (plateIn n w) w count
-      → false ≡ sameBytes s (recordOf k wd ht (plateIn n w))
+      → comparison v r ≡ sameAt s at v → r ≡ Different → Standing k wd ht (greysIn n w) w count
+      → false ≡ sameBytes s (recordOf k wd ht (greysIn n w))
   comparing-differs {v} {r} l is found e t =
       rw (standing-record n t)
       (sym (starts-differ (encode (columnFields k wd ht n w count)) s
       (matched-differs (columnFields k wd ht n w count) s i at (m .matched) v (column-inside k wd ht n w count (m .spelt .some-nodes) i l) is
       (sym (ap (comparison v) e) ∙ found))))
 
-  pub comparing-done : 3 * count + 3 + n ≤ i → Standing k wd ht (plateIn n w) w count → eqb at (length s) ≡ sameBytes s (recordOf k wd ht (plateIn n w))
+  pub comparing-done : 3 * count + 3 + n ≤ i → Standing k wd ht (greysIn n w) w count → eqb at (length s) ≡ sameBytes s (recordOf k wd ht (greysIn n w))
   comparing-done l t =
       let done = matched-done (columnFields k wd ht n w count) s i at (m .matched) (column-end k wd ht n w count (m .spelt .some-nodes) i l) in
       rw (standing-record n t, done .0) (sym (starts-same (encode (columnFields k wd ht n w count)) s (done .1)))

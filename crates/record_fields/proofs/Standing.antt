@@ -15,7 +15,8 @@ use Rattle.work_columns.specs.Columns.{Room, col}
 use Rattle.work_columns.specs.Layout.{AREA, GREY, LEVEL, OWN, PARENT}
 use Rattle.plate_greys.specs.Standing.{Standing}
 use Rattle.plate_greys.specs.Tree.{TreeFacts}
-use Rattle.record_fields.specs.Fields.{Spelt, columnFields, nodeColumns, plateIn}
+use Rattle.record_parse.specs.Steps.{greysIn}
+use Rattle.record_fields.specs.Fields.{TreeSpelt, columnFields, nodeColumns}
 use Rattle.record_fields.proofs.Fields.{gather-same}
 
 -- ---- the tree of the greys that stand in the work space
@@ -53,7 +54,7 @@ module _ {k wd n : ℕ} {w : List ℕ} {count : ℕ} (grown : TreeFacts k wd n w
       table-same n (own n (touch k wd) (col GREY n w) xs) (col OWN n w) (λ p l. sym (grown .tree .owns p l)) in
       cc
 
-  pub grown-spelt : Room w n → Spelt n w count
+  pub grown-spelt : Room w n → TreeSpelt n w count
   grown-spelt room = record {
     room = room;
     some-nodes = grown .some-nodes;
@@ -86,19 +87,19 @@ module _ {k wd ht : ℕ} {f w : List ℕ} {count : ℕ} (s : Standing k wd ht f 
       ∙ ap (λ (l : List ℕ). wd ∷ ht ∷ k ∷ l) (tree-columns (s .facts))
 
   -- it is the plate whose greys stand there
-  pub standing-plate : (n : ℕ) → n ≡ length f → plateIn n w ≡ f
+  pub standing-plate : (n : ℕ) → n ≡ length f → greysIn n w ≡ f
   standing-plate n e = rw (e, s .same) (table-grey f)
 
-  pub standing-here : (n : ℕ) → n ≡ length f → Standing k wd ht (plateIn n w) w count
+  pub standing-here : (n : ℕ) → n ≡ length f → Standing k wd ht (greysIn n w) w count
   standing-here n e = rw (standing-plate n e) s
 
 -- ---- the plate whose greys stand in the work space
 
-module _ {k wd ht : ℕ} (n : ℕ) {w : List ℕ} {count : ℕ} (s : Standing k wd ht (plateIn n w) w count) where
-  pub standing-spelt : Spelt n w count
+module _ {k wd ht : ℕ} (n : ℕ) {w : List ℕ} {count : ℕ} (s : Standing k wd ht (greysIn n w) w count) where
+  pub standing-spelt : TreeSpelt n w count
   standing-spelt = rw (length-table n (col GREY n w)) at (grown-spelt (s .facts) (s .room))
 
-  pub standing-record : recordOf k wd ht (plateIn n w) ≡ encode (columnFields k wd ht n w count)
+  pub standing-record : recordOf k wd ht (greysIn n w) ≡ encode (columnFields k wd ht n w count)
   unfolding recordOf
   standing-record =
       ap encode (standing-fields s)

@@ -1,13 +1,9 @@
--- The plate whose greys stand in the work space, and the fields that its columns spell. w: the work space; n: the pixels; count: the nodes.
+-- The fields that the columns of the work space spell. w: the work space; n: the pixels; count: the nodes.
 use mathlib.Core.List.{List, [], _∷_, _++_}
 use Prim.Native.Nat.{ℕ, suc, _-_, _≤_, _<_}
 use Rattle.meaning.specs.Sets.{gather, table}
 use Rattle.work_columns.specs.Columns.{Room, col}
-use Rattle.work_columns.specs.Layout.{AREA, GREY, LEVEL, OWN, PARENT}
-
--- the plate whose n greys stand in the work space
-abbrev pub plateIn : ℕ → List ℕ → List ℕ
-plateIn n w = table n (col GREY n w)
+use Rattle.work_columns.specs.Layout.{AREA, LEVEL, OWN, PARENT}
 
 -- a node after the root, as `nodeFields` has it
 unfoldable pub nodeColumns : ℕ → List ℕ → ℕ → List ℕ
@@ -22,15 +18,15 @@ columnFields k wd ht n w count =
     ∷ (gather (count - 1) (λ (i : ℕ). nodeColumns n w (suc i)) ++ table n (col OWN n w))
 
 -- the parent of node i comes no later than i, and is not lighter
-pub record Raised (n : ℕ) (w : List ℕ) (i : ℕ) : Type 0 where
+pub record ParentFits (n : ℕ) (w : List ℕ) (i : ℕ) : Type 0 where
   pub room : Room w n
   pub below : i < n
   pub back : col PARENT n w i ≤ i
   pub rises : col LEVEL n w (col PARENT n w i) ≤ col LEVEL n w i
 
 -- so it is of each node after the root
-pub record Spelt (n : ℕ) (w : List ℕ) (count : ℕ) : Type 0 where
+pub record TreeSpelt (n : ℕ) (w : List ℕ) (count : ℕ) : Type 0 where
   pub room : Room w n
   pub some-nodes : 0 < count
   pub few-nodes : count ≤ n
-  pub raised : (i : ℕ) → 0 < i → i < count → Raised n w i
+  pub raised : (i : ℕ) → 0 < i → i < count → ParentFits n w i

@@ -9,7 +9,8 @@ ghost use Rattle.meaning.specs.Record.{recordOf};
 ghost use Rattle.meaning.specs.Answers.{over};
 ghost use Rattle.plate_greys.specs.Standing.{Standing};
 ghost use Rattle.record_parse.specs.Parse.{sameBytes};
-ghost use Rattle.record_fields.specs.Fields.{plateIn, nodeColumns, columnFields, Raised, Spelt};
+ghost use Rattle.record_parse.specs.Steps.{greysIn};
+ghost use Rattle.record_fields.specs.Fields.{nodeColumns, columnFields, ParentFits, TreeSpelt};
 
 const OWN: usize = 1;
 
@@ -21,7 +22,7 @@ const AREA: usize = 7;
 
 // Of node i, after the root: 0 the step back to its parent's number, 1 its rise above the parent's level, 2 its area.
 fn node_field(w: &[u32], n: usize, i: usize, part: usize) -> usize
-    requires { ⌜ Raised n (now w) i ⌝ }
+    requires { ⌜ ParentFits n (now w) i ⌝ }
     requires { ⌜ part < 3 ⌝ }
     ensures { λ r. ⌜ (r ≡ nth (nodeColumns n (now (w .entry)) i) part) × (r < 4294967296) ⌝ }
 {
@@ -47,7 +48,7 @@ fn head_field(
     count: usize,
     i: usize,
 ) -> u32
-    requires { ⌜ Spelt n (now w) count ⌝ }
+    requires { ⌜ TreeSpelt n (now w) count ⌝ }
     requires { ⌜ i < 6 ⌝ }
     ensures { λ r. ⌜ r ≡ nth (columnFields connectivity width height n (now (w .entry)) count) i ⌝ }
 {
@@ -79,7 +80,7 @@ fn front_field(
     count: usize,
     i: usize,
 ) -> u32
-    requires { ⌜ Spelt n (now w) count ⌝ }
+    requires { ⌜ TreeSpelt n (now w) count ⌝ }
     requires { ⌜ i < 3 * count + 3 ⌝ }
     ensures { λ r. ⌜ r ≡ nth (columnFields connectivity width height n (now (w .entry)) count) i ⌝ }
 {
@@ -100,7 +101,7 @@ fn field_at(
     count: usize,
     i: usize,
 ) -> u32
-    requires { ⌜ Spelt n (now w) count ⌝ }
+    requires { ⌜ TreeSpelt n (now w) count ⌝ }
     requires { ⌜ i < 3 * count + 3 + n ⌝ }
     ensures { λ r. ⌜ r ≡ nth (columnFields connectivity width height n (now (w .entry)) count) i ⌝ }
 {
@@ -120,8 +121,8 @@ pub fn measure(
     connectivity: u32,
     count: usize,
 ) -> usize
-    requires { ⌜ Standing connectivity width height (plateIn n (now w)) (now w) count ⌝ }
-    ensures { λ r. ⌜ r ≡ length (recordOf connectivity width height (plateIn n (now (w .entry)))) ⌝ }
+    requires { ⌜ Standing connectivity width height (greysIn n (now w)) (now w) count ⌝ }
+    ensures { λ r. ⌜ r ≡ length (recordOf connectivity width height (greysIn n (now (w .entry)))) ⌝ }
 {
     let fields = 3 * count + 3 + n;
     let mut size: usize = 0;
@@ -144,9 +145,9 @@ pub fn write(
     count: usize,
     out: &mut [u8],
 )
-    requires { ⌜ Standing connectivity width height (plateIn n (now w)) (now w) count ⌝ }
-    requires { ⌜ length (recordOf connectivity width height (plateIn n (now w))) ≤ length (now out) ⌝ }
-    ensures { λ _. ⌜ now (out .exit) ≡ over (recordOf connectivity width height (plateIn n (now (w .entry)))) (now (out .entry)) ⌝ }
+    requires { ⌜ Standing connectivity width height (greysIn n (now w)) (now w) count ⌝ }
+    requires { ⌜ length (recordOf connectivity width height (greysIn n (now w))) ≤ length (now out) ⌝ }
+    ensures { λ _. ⌜ now (out .exit) ≡ over (recordOf connectivity width height (greysIn n (now (w .entry)))) (now (out .entry)) ⌝ }
 {
     let end = 3 * count + 3 + n;
     let mut at: usize = 0;
@@ -168,8 +169,8 @@ pub fn same(
     count: usize,
     s: &[u8],
 ) -> bool
-    requires { ⌜ Standing connectivity width height (plateIn n (now w)) (now w) count ⌝ }
-    ensures { λ r. ⌜ r ≡ sameBytes (now (s .entry)) (recordOf connectivity width height (plateIn n (now (w .entry)))) ⌝ }
+    requires { ⌜ Standing connectivity width height (greysIn n (now w)) (now w) count ⌝ }
+    ensures { λ r. ⌜ r ≡ sameBytes (now (s .entry)) (recordOf connectivity width height (greysIn n (now (w .entry)))) ⌝ }
 {
     let total = 3 * count + 3 + n;
     let mut at: usize = 0;

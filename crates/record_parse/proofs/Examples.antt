@@ -3,7 +3,7 @@ use mathlib.Core.Path.{_≡_, refl}
 use mathlib.Core.List.{List, [], _∷_, _++_, map}
 use Prim.Native.Nat.{ℕ}
 use Rattle.meaning.specs.Examples.{small}
-use Rattle.record_varint.specs.Field.{fieldOf, lead, starts, value}
+use Rattle.record_varint.specs.Field.{continued, fieldOf, starts, value}
 use Rattle.record_parse.specs.Parse.{Parsed, early, late, plate, readOf}
 
 pub record Case : Type 0 where
@@ -39,5 +39,5 @@ cases =
     ∷ []
 
 pub cases-hold : map (λ (c : Case). readOf (c .bytes) (c .work)) cases ≡ map (λ (c : Case). c .answer) cases
-unfolding readOf fieldOf lead starts value
+unfolding readOf fieldOf continued starts value
 cases-hold = refl

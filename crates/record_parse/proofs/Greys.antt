@@ -67,7 +67,8 @@ module _ {s : List ℕ} {start n : ℕ} {w₀ w : List ℕ} {count p at : ℕ} (
       same = t .off LEVEL (omega arith) (omega arith) ∙ l .same;
       upto = omega arith;
       rest =
-          turn ∙ ap (prepend (table p (col GREY n w))) field ∙ prepend-more (table p (col GREY n w)) level (greysFrom s n (levelsIn n w₀ count) (n - suc p) next)
+          turn ∙ ap (prepend (table p (col GREY n w))) field
+          ∙ prepend-more (table p (col GREY n w)) level (greysFrom s n (levelsIn n w₀ count) (n - suc p) next)
           ∙ ap (λ (xs : List ℕ). prepend xs (greysFrom s n (levelsIn n w₀ count) (n - suc p) next))
           (sym (table-more p (col GREY n w) (col GREY n w′) level (λ j b. t .put .other j (omega arith) (omega arith)) (t .put .here)));
     }

@@ -32,7 +32,8 @@ module _ {s : List ℕ} {at n : ℕ} {w : List ℕ} {i number : ℕ} where
   unfolding levelsFrom
   node-stops₁ e = stops (λ left. rw (length-table i (col LEVEL n w), e))
 
-module _ {s : List ℕ} {at n : ℕ} {w : List ℕ} {i : ℕ} (k : Known n w i) {back at₁ level : ℕ} (a : Took s at 1 i back at₁) (is : level ≡ col LEVEL n w (i - back)) where
+module _ {s : List ℕ} {at n : ℕ} {w : List ℕ} {i : ℕ} (k : Known n w i) {back at₁ level : ℕ} (a : Took s at 1 i back at₁)
+    (is : level ≡ col LEVEL n w (i - back)) where
   -- the parent's level, and its place in the list
   pub level-fits : level ≤ greatestGrey
   level-fits = omega (arith, is, k .levels (i - back) (omega (arith, a .low, a .high)))

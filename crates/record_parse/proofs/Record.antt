@@ -10,14 +10,12 @@ use Rattle.record_parse.specs.declared.Parse.{Parse}
 use Rattle.record_parse.specs.declared.Parse.the-variants.{Early, Late, Plate}
 use Rattle.record_parse.specs.declared.Step.{Step}
 use Rattle.record_parse.specs.declared.Step.the-variants.{Next, Refused}
-use Rattle.meaning.specs.Plate.{connectivityFits, grey, maxPixels, maxSide}
+use Rattle.meaning.specs.Plate.{connectivityFits, maxPixels, maxSide}
 use Rattle.meaning.specs.Sets.{pick}
-use Rattle.theory_lists.proofs.Lists.{getD-table, length-table}
-use Rattle.work_columns.specs.Columns.{Room, col}
-use Rattle.work_columns.specs.Layout.{GREY}
+use Rattle.work_columns.specs.Columns.{Room}
 use Rattle.record_varint.specs.Field.{fieldAt, fieldBound, refused}
-use Rattle.record_parse.specs.Parse.{Parsed, ParsedWork, early, fromConnectivity, fromCount, fromHeight, fromRoot, late, parse, plate}
-use Rattle.record_parse.specs.Steps.{TreeRead, greysIn, outcome, treeParsed}
+use Rattle.record_parse.specs.Parse.{Parsed, early, fromConnectivity, fromCount, fromHeight, fromRoot, parse}
+use Rattle.record_parse.specs.Steps.{ParsedWork, TreeRead, greysIn, parsedBy, treeParsed}
 use Rattle.record_parse.proofs.Fields.{Took}
 
 -- ---- after each field; work: the length of the work space
@@ -90,24 +88,19 @@ module _ {s : List ℕ} {work : ℕ} where
 
 -- ---- the answer, and the work space after it
 
-abbrev pub Answered : Parsed → List ℕ → List ℕ → Parse → Type 0
-Answered p work work′ r = (r ≡ outcome p) × ParsedWork p work work′
+abbrev pub Spells : Parsed → List ℕ → List ℕ → Parse → Type 0
+Spells p work work′ r = (parsedBy r work′ ≡ p) × ParsedWork r work work′
 
-pub early-answer : (p : Parsed) (work : List ℕ) {number : ℕ} → p ≡ early number → Answered p work work (Early number)
-early-answer p work e = rw e (refl, refl)
+pub early-answer : (p : Parsed) (work : List ℕ) {number : ℕ} → p ≡ early number → Spells p work work (Early number)
+early-answer p work e = (sym e, refl)
 
-module _ (p : Parsed) (k w h : ℕ) {s : List ℕ} {at : ℕ} {work work′ : List ℕ} {count : ℕ} {r : Step} (room : Room work (w * h)) (t : TreeRead s at (w * h) work work′ count r) (e : p ≡ fromRoot s k w h count at) where
-  parsed : p ≡ treeParsed r k w h (greysIn (w * h) work′)
-  parsed = e ∙ t .rest k w h refl
+module _ (p : Parsed) (k w h : ℕ) {s : List ℕ} {at : ℕ} {work work′ : List ℕ} {count : ℕ} {r : Step}
+    (room : Room work (w * h)) (t : TreeRead s at (w * h) work work′ count r) (e : p ≡ fromRoot s k w h count at) where
+  parsed : {q : Step} → r ≡ q → treeParsed q k w h (greysIn (w * h) work′) ≡ p
+  parsed f = sym (e ∙ t .rest k w h refl ∙ ap (λ (x : Step). treeParsed x k w h (greysIn (w * h) work′)) f)
 
-  pub late-answer : {number : ℕ} → r ≡ Refused number → Answered p work work′ (Late number (w * h))
-  late-answer {number} f =
-      let is : p ≡ late number (w * h) = parsed ∙ ap (λ (x : Step). treeParsed x k w h (greysIn (w * h) work′)) f in
-      rw is (refl, (room, t .frame))
+  pub late-answer : {number : ℕ} → r ≡ Refused number → Spells p work work′ (Late number (w * h))
+  late-answer f = (parsed f, (room, t .frame))
 
-  pub plate-answer : {next : ℕ} → r ≡ Next next → Answered p work work′ (Plate w h k)
-  plate-answer f =
-      let is : p ≡ plate k w h (greysIn (w * h) work′) = parsed ∙ ap (λ (x : Step). treeParsed x k w h (greysIn (w * h) work′)) f in
-      let grey-is : (q : ℕ) → q < w * h → col GREY (w * h) work′ q ≡ grey (greysIn (w * h) work′) q =
-      λ q l. sym (getD-table (w * h) (col GREY (w * h) work′) q 0 l) in
-      rw is (refl, ((room, t .frame), (length-table (w * h) (col GREY (w * h) work′), grey-is)))
+  pub plate-answer : {next : ℕ} → r ≡ Next next → Spells p work work′ (Plate w h k)
+  plate-answer f = (parsed f, (room, t .frame))

@@ -16,13 +16,13 @@ use Rattle.record_parse.specs.Parse.{Parsed, Values, bad, early, fromCon
 -- ---- what went on was not refused
 
 -- the field r is accepted, and what follows it gives x
-record Goes {X : Type 0} (r : Reading) (go : ℕ → ℕ → X) (x : X) : Type 0 where
+record FieldAccepted {X : Type 0} (r : Reading) (go : ℕ → ℕ → X) (x : X) : Type 0 where
   v : ℕ
   next : ℕ
   read : r ≡ accepted v next
   rest : go v next ≡ x
 
-on-value : (r : Reading) (go : ℕ → ℕ → Values) (vs : List ℕ) (q : ℕ) → onValue r go ≡ good vs q → Goes r go (good vs q)
+on-value : (r : Reading) (go : ℕ → ℕ → Values) (vs : List ℕ) (q : ℕ) → onValue r go ≡ good vs q → FieldAccepted r go (good vs q)
 on-value (accepted v next) go vs q e = record { v = v; next = next; read = refl; rest = e }
 on-value (refused number) go vs q e = let z : _≡_ {A = ℕ} 0 1 = cc in absurd (omega arith)
 
@@ -41,7 +41,8 @@ late-refuses : (pixels : ℕ) → Refusing (lateOf pixels)
 late-refuses pixels number k w h f e = let z : _≡_ {A = ℕ} 0 1 = cc in omega arith
 
 module _ (k w h : ℕ) (f : List ℕ) where
-  on-field : (r : Reading) (refusal : ℕ → Parsed) (go : ℕ → ℕ → Parsed) → Refusing refusal → onField r refusal go ≡ plate k w h f → Goes r go (plate k w h f)
+  on-field : (r : Reading) (refusal : ℕ → Parsed) (go : ℕ → ℕ → Parsed) → Refusing refusal → onField r refusal go ≡ plate k w h f
+      → FieldAccepted r go (plate k w h f)
   on-field (accepted v next) refusal go no-plate e = record { v = v; next = next; read = refl; rest = e }
   on-field (refused number) refusal go no-plate e = absurd (no-plate number k w h f e)
 
@@ -50,28 +51,29 @@ module _ (k w h : ℕ) (f : List ℕ) where
   on-values (good ws next) refusal go no-plate e = (ws, (next, (refl, e)))
   on-values (bad number) refusal go no-plate e = absurd (no-plate number k w h f e)
 
-  on-test : (b : Bool) (refusal : ℕ → Parsed) (number : ℕ) (p : Parsed) → Refusing refusal → pick b (refusal number) p ≡ plate k w h f → (b ≡ false) × (p ≡ plate k w h f)
+  on-test : (b : Bool) (refusal : ℕ → Parsed) (number : ℕ) (p : Parsed) → Refusing refusal → pick b (refusal number) p ≡ plate k w h f
+      → (b ≡ false) × (p ≡ plate k w h f)
   on-test true refusal number p no-plate e = absurd (no-plate number k w h f e)
   on-test false refusal number p no-plate e = (refl, e)
 
 -- ---- levels and greys
 
 -- each number of a list is a grey
-data Greys : List ℕ → Type 0 where
-  none : Greys []
-  one : {v : ℕ} {vs : List ℕ} → v ≤ greatestGrey → Greys vs → Greys (v ∷ vs)
+data AllGreys : List ℕ → Type 0 where
+  none : AllGreys []
+  one : {v : ℕ} {vs : List ℕ} → v ≤ greatestGrey → AllGreys vs → AllGreys (v ∷ vs)
 
-greys-nth : {vs : List ℕ} (i : ℕ) → Greys vs → nth vs i ≤ greatestGrey
+greys-nth : {vs : List ℕ} (i : ℕ) → AllGreys vs → nth vs i ≤ greatestGrey
 greys-nth i none = omega arith
 greys-nth zero (one l a) = l
 greys-nth (suc i) (one l a) = greys-nth i a
 
-greys-snoc : {vs : List ℕ} {v : ℕ} → Greys vs → v ≤ greatestGrey → Greys (vs ++ (v ∷ []))
+greys-snoc : {vs : List ℕ} {v : ℕ} → AllGreys vs → v ≤ greatestGrey → AllGreys (vs ++ (v ∷ []))
 greys-snoc none l = one l none
 greys-snoc (one h a) l = one h (greys-snoc a l)
 
 module _ (s : List ℕ) (pixels : ℕ) where
-  levels-greys : (left : ℕ) (levels : List ℕ) (at : ℕ) (vs : List ℕ) (q : ℕ) → Greys levels → levelsFrom s pixels left levels at ≡ good vs q → Greys vs
+  levels-greys : (left : ℕ) (levels : List ℕ) (at : ℕ) (vs : List ℕ) (q : ℕ) → AllGreys levels → levelsFrom s pixels left levels at ≡ good vs q → AllGreys vs
   unfolding levelsFrom
   levels-greys zero levels at vs q g e = let is : levels ≡ vs = cc in rw is at g
   levels-greys (suc left) levels at vs q g e =
@@ -83,8 +85,8 @@ module _ (s : List ℕ) (pixels : ℕ) where
       let low : level ≤ greatestGrey = greys-nth (length levels - back .v) g in
       levels-greys left (levels ++ ((level + rise .v) ∷ [])) (area .next) vs q (greys-snoc g (omega arith)) (area .rest)
 
-  owns-greys : (levels : List ℕ) (left at : ℕ) (vs : List ℕ) (q : ℕ) → Greys levels → greysFrom s pixels levels left at ≡ good vs q
-      → Greys vs × (length vs ≡ left)
+  owns-greys : (levels : List ℕ) (left at : ℕ) (vs : List ℕ) (q : ℕ) → AllGreys levels → greysFrom s pixels levels left at ≡ good vs q
+      → AllGreys vs × (length vs ≡ left)
   unfolding greysFrom
   owns-greys levels zero at vs q g e = let is : vs ≡ [] = cc in rw is (none, refl)
   owns-greys levels (suc left) at vs q g e =
@@ -96,14 +98,14 @@ module _ (s : List ℕ) (pixels : ℕ) where
 -- ---- the whole record
 
 -- parsing gives the plate f of the sizes and the connectivity that were read: k′, w′, h′
-record Spelt (k′ w′ h′ k w h : ℕ) (f : List ℕ) : Type 0 where
+record PlateRead (k′ w′ h′ k w h : ℕ) (f : List ℕ) : Type 0 where
   kind : k′ ≡ k
   width : w′ ≡ w
   height : h′ ≡ h
-  greys : Greys f
+  greys : AllGreys f
   long : length f ≡ w′ * h′
 
-spelt-plate : {k′ w′ h′ k w h : ℕ} {f : List ℕ} → Spelt k′ w′ h′ k w h f → (work : ℕ) → connectivityFits k′ ≡ true → gridFits w′ h′ ≡ true
+spelt-plate : {k′ w′ h′ k w h : ℕ} {f : List ℕ} → PlateRead k′ w′ h′ k w h f → (work : ℕ) → connectivityFits k′ ≡ true → gridFits w′ h′ ≡ true
     → 8 * (w′ * h′) ≤ work → Plate k w h f × (8 * (w * h) ≤ work)
 spelt-plate {f = f} r work kind sizes room = (
   record {
@@ -116,20 +118,22 @@ spelt-plate {f = f} r work kind sizes room = (
 )
 
 module _ (s : List ℕ) (k w h : ℕ) (f : List ℕ) where
-  own-plate : (k′ w′ h′ : ℕ) (levels : List ℕ) (at : ℕ) → Greys levels → fromOwn s k′ w′ h′ levels at ≡ plate k w h f → Spelt k′ w′ h′ k w h f
+  own-plate : (k′ w′ h′ : ℕ) (levels : List ℕ) (at : ℕ) → AllGreys levels → fromOwn s k′ w′ h′ levels at ≡ plate k w h f → PlateRead k′ w′ h′ k w h f
   own-plate k′ w′ h′ levels at g e =
       let vs = on-values k w h f (greysFrom s (w′ * h′) levels (w′ * h′) at) (lateOf (w′ * h′)) _ (late-refuses (w′ * h′)) e in
       let end = on-test k w h f (ltb (vs .1 .0) (length s)) (lateOf (w′ * h′)) 23 (plate k′ w′ h′ (vs .0)) (late-refuses (w′ * h′)) (vs .1 .1 .1) in
       let a = owns-greys s (w′ * h′) levels (w′ * h′) at (vs .0) (vs .1 .0) g (vs .1 .1 .0) in
       let is : vs .0 ≡ f = cc (end .1) in
-      let b : Greys f × (length f ≡ w′ * h′) = rw is at a in
+      let b : AllGreys f × (length f ≡ w′ * h′) = rw is at a in
       record { kind = cc (end .1); width = cc (end .1); height = cc (end .1); greys = b .0; long = b .1 }
 
-  root-plate : (k′ w′ h′ count at : ℕ) → fromRoot s k′ w′ h′ count at ≡ plate k w h f → Spelt k′ w′ h′ k w h f
+  root-plate : (k′ w′ h′ count at : ℕ) → fromRoot s k′ w′ h′ count at ≡ plate k w h f → PlateRead k′ w′ h′ k w h f
   root-plate k′ w′ h′ count at e =
       let root = on-field k w h f (fieldAt s at 0 greatestGrey) (lateOf (w′ * h′)) _ (late-refuses (w′ * h′)) e in
       let area = on-field k w h f (fieldAt s (root .next) 1 (w′ * h′)) (lateOf (w′ * h′)) _ (late-refuses (w′ * h′)) (root .rest) in
-      let nodes = on-values k w h f (levelsFrom s (w′ * h′) (count - 1) (root .v ∷ []) (area .next)) (lateOf (w′ * h′)) (fromOwn s k′ w′ h′) (late-refuses (w′ * h′)) (area .rest) in
+      let nodes =
+      on-values k w h f (levelsFrom s (w′ * h′) (count - 1) (root .v ∷ []) (area .next)) (lateOf (w′ * h′)) (fromOwn s k′ w′ h′)
+      (late-refuses (w′ * h′)) (area .rest) in
       let low = field-read s at 0 greatestGrey (root .v) (root .next) (root .read) .high in
       own-plate k′ w′ h′ (nodes .0) (nodes .1 .0)
       (levels-greys s (w′ * h′) (count - 1) (root .v ∷ []) (area .next) (nodes .0) (nodes .1 .0) (one low none) (nodes .1 .1 .0)) (nodes .1 .1 .1)
@@ -145,11 +149,19 @@ module _ (s : List ℕ) (k w h : ℕ) (f : List ℕ) where
       let kind = on-field k w h f (fieldAt s (height .next) 0 (fieldBound - 1)) early _ early-refuses (grid .1) in
       let k′ = kind .v in
       let fit = on-test k w h f (not (connectivityFits k′)) early 22 (fromCount s work k′ w′ h′ (kind .next)) early-refuses (kind .rest) in
-      let count = on-field k w h f (fieldAt s (kind .next) 1 (w′ * h′)) early (λ count next. pick (ltb work (8 * (w′ * h′))) (early 6) (fromRoot s k′ w′ h′ count next)) early-refuses (fit .1) in
+      let count =
+      on-field k w h f (fieldAt s (kind .next) 1 (w′ * h′)) early
+      (λ count next. pick (ltb work (8 * (w′ * h′))) (early 6) (fromRoot s k′ w′ h′ count next)) early-refuses (fit .1) in
       let room = on-test k w h f (ltb work (8 * (w′ * h′))) early 6 (fromRoot s k′ w′ h′ (count .v) (count .next)) early-refuses (count .rest) in
       let a = field-read s 0 1 maxSide w′ (width .next) (width .read) in
       let b = field-read s (width .next) 1 maxSide h′ (height .next) (height .read) in
       let r = root-plate k′ w′ h′ (count .v) (count .next) (room .1) in
       let sizes : gridFits w′ h′ ≡ true =
-      rw (le-leb 1 w′ (a .low), le-leb w′ maxSide (a .high), le-leb 1 h′ (b .low), le-leb h′ maxSide (b .high), le-leb (w′ * h′) maxPixels (ltb-false maxPixels (w′ * h′) (grid .0))) in
+      rw (
+        le-leb 1 w′ (a .low),
+        le-leb w′ maxSide (a .high),
+        le-leb 1 h′ (b .low),
+        le-leb h′ maxSide (b .high),
+        le-leb (w′ * h′) maxPixels (ltb-false maxPixels (w′ * h′) (grid .0)),
+      ) in
       spelt-plate r work (not-false (connectivityFits k′) (fit .0)) sizes (ltb-false work (8 * (w′ * h′)) (room .0))

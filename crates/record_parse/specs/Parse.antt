@@ -1,16 +1,13 @@
 -- The fields of a record taken one after another: SPECIFICATION 6 and 9 up to 23. `readOf` adds 24.
-use mathlib.Core.Path.{_≡_}
 use mathlib.Core.Bool.{Bool, true, false, not, _&&_}
 use mathlib.Core.List.{List, [], _∷_, _++_}
-use Prim.Native.Nat.{ℕ, zero, suc, _+_, _-_, _*_, _<_}
+use Prim.Native.Nat.{ℕ, zero, suc, _+_, _-_, _*_}
 use lib.Dec.{ltb, eqb}
 use lib.ListN.{length}
 use Rattle.meaning.specs.Sets.{pick, nth}
-use Rattle.meaning.specs.Plate.{greatestGrey, maxSide, maxPixels, connectivityFits, grey}
+use Rattle.meaning.specs.Plate.{greatestGrey, maxSide, maxPixels, connectivityFits}
 use Rattle.meaning.specs.Record.{recordOf}
 use Rattle.record_varint.specs.Field.{Reading, accepted, refused, fieldAt, fieldBound}
-use Rattle.work_columns.specs.Columns.{col, Frame, Room}
-use Rattle.work_columns.specs.Layout.{GREY}
 
 -- ---- several fields
 
@@ -119,12 +116,3 @@ compared s (plate k w h f) = pick (sameBytes s (recordOf k w h f)) (plate k w h 
 unfoldable pub readOf : List ℕ → ℕ → Parsed
 unfolding parse recordOf sameBytes
 readOf s work = compared s (parse s work)
-
--- ---- the work space after parsing
-
--- untouched by 6 and ahead of it; else only the eight columns have changed, and the plate's greys stand in GREY
-abbrev pub ParsedWork : Parsed → List ℕ → List ℕ → Type 0
-ParsedWork (early number) work work′ = work′ ≡ work
-ParsedWork (late number pixels) work work′ = Room work pixels × Frame pixels work work′
-ParsedWork (plate k w h f) work work′ =
-    (Room work (w * h) × Frame (w * h) work work′) × ((length f ≡ w * h) × ((p : ℕ) → p < w * h → col GREY (w * h) work′ p ≡ grey f p))

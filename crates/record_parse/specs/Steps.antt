@@ -14,11 +14,22 @@ use Rattle.record_parse.specs.Parse.{Parsed, Values, bad, early, fromRoo
 
 -- ---- the record
 
--- the answer for what the bytes spell: the specification's number; with the pixels where work has begun; else width, height and connectivity
-abbrev pub outcome : Parsed → Parse
-outcome (early number) = Early number
-outcome (late number pixels) = Late number pixels
-outcome (plate k w h f) = Plate w h k
+-- the greys of the pixels, as they stand in the work space
+abbrev pub greysIn : ℕ → List ℕ → List ℕ
+greysIn n w = table n (col GREY n w)
+
+-- an answer in the specification's terms: the number of the refusal, with the pixels where work had begun; else the plate of that width, height and
+-- connectivity whose greys stand in the work space w
+abbrev pub parsedBy : Parse → List ℕ → Parsed
+parsedBy (Early number) w = early number
+parsedBy (Late number pixels) w = late number pixels
+parsedBy (Plate wd ht k) w = plate k wd ht (greysIn (wd * ht) w)
+
+-- what it leaves in the work space: all as it was where no work had begun, else changes in the eight columns only
+abbrev pub ParsedWork : Parse → List ℕ → List ℕ → Type 0
+ParsedWork (Early number) w w′ = w′ ≡ w
+ParsedWork (Late number pixels) w w′ = Room w pixels × Frame pixels w w′
+ParsedWork (Plate wd ht k) w w′ = Room w (wd * ht) × Frame (wd * ht) w w′
 
 -- ---- fields
 
@@ -27,12 +38,9 @@ abbrev pub onStep : Step → (ℕ → Values) → Values
 onStep (Next next) go = go next
 onStep (Refused number) go = bad number
 
--- the levels of the first `count` nodes, and the greys of the pixels, as they stand in the work space
+-- the levels of the first `count` nodes, as they stand in the work space
 abbrev pub levelsIn : ℕ → List ℕ → ℕ → List ℕ
 levelsIn n w count = table count (col LEVEL n w)
-
-abbrev pub greysIn : ℕ → List ℕ → List ℕ
-greysIn n w = table n (col GREY n w)
 
 -- the levels of the first `count` nodes are stored
 pub record Known (n : ℕ) (w : List ℕ) (count : ℕ) : Type 0 where

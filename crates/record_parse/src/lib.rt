@@ -3,11 +3,11 @@ ghost use mathlib.Core.Path.{_≡_};
 ghost use Prim.Native.Nat.{_+_, _*_, _<_, _≤_};
 ghost use lib.ListN.{length};
 ghost use Rattle.work_columns.specs.Columns.{Room};
-ghost use Rattle.record_parse.specs.Parse.{parse, ParsedWork};
-ghost use Rattle.record_parse.specs.Steps.{outcome, Known, NodeRead, NodesRead, GreysRead, TreeRead};
+ghost use Rattle.record_parse.specs.Parse.{parse};
+ghost use Rattle.record_parse.specs.Steps.{parsedBy, ParsedWork, Known, NodeRead, NodesRead, GreysRead, TreeRead};
 use record_varint::Field;
 
-// What a record spells. `outcome` says it in the specification's terms.
+// What a record spells. `parsedBy` says it in the specification's terms.
 pub enum Parse {
     // Refused by 6 or ahead of it, so that no work has begun: the specification's number.
     Early(u32),
@@ -122,8 +122,8 @@ fn read_tree(s: &[u8], at: usize, work: &mut [u32], n: usize, count: usize) -> S
 
 // Parses a record, up to refusal 23. The greys of the plate stand in the work space's first column.
 pub fn parse_record(s: &[u8], work: &mut [u32]) -> Parse
-    ensures { λ r. ⌜ r ≡ outcome (parse (now (s .entry)) (length (now (work .entry)))) ⌝ }
-    ensures { λ _. ⌜ ParsedWork (parse (now (s .entry)) (length (now (work .entry)))) (now (work .entry)) (now (work .exit)) ⌝ }
+    ensures { λ r. ⌜ parsedBy r (now (work .exit)) ≡ parse (now (s .entry)) (length (now (work .entry))) ⌝ }
+    ensures { λ r. ⌜ ParsedWork r (now (work .entry)) (now (work .exit)) ⌝ }
 {
     let f1 = record_varint::read_field(s, 0, 1, 32768);
     let Field::Value(width, at1) = f1 else {

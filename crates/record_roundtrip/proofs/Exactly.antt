@@ -11,7 +11,7 @@ use Rattle.meaning.specs.Plate.{Plate, connectivityFits, greatestGrey, maxPixel
 use Rattle.meaning.specs.Record.{recordOf, varint}
 use Rattle.meaning.specs.Sets.{nth, pick}
 use Rattle.theory_lists.proofs.Tests.{both-true, passes}
-use Rattle.record_varint.specs.Field.{Reading, accepted, fieldAt, fieldBound, fieldOf, lead, refused, starts, value}
+use Rattle.record_varint.specs.Field.{Reading, accepted, continued, fieldAt, fieldBound, fieldOf, refused, starts, value}
 use Rattle.record_parse.specs.Parse.{Parsed, Values, bad, compared, early, fromConnectivity, fromCount, fromHeight, fromNodes, fromOwn, fromRoot, good, greysFrom, late, lateOf, levelsFrom, more, onField, onValue, onValues, parse, plate, readOf, sameBytes}
 use Rattle.record_parse.proofs.Sound.{parse-plate}
 
@@ -40,7 +40,7 @@ field-numbered : (l : List ℕ) (at lo hi : ℕ) → NumberedField (fieldOf l at
 unfolding fieldOf
 field-numbered l at lo hi =
     let v = value l in
-    three-tests (leb (length l) (lead l)) (not (starts (varint v) l && ltb v fieldBound)) (not (leb lo v && leb v hi)) v (at + length (varint v))
+    three-tests (leb (length l) (continued l)) (not (starts (varint v) l && ltb v fieldBound)) (not (leb lo v && leb v hi)) v (at + length (varint v))
 
 value-numbered : (r : Reading) (go : ℕ → ℕ → Values) → NumberedField r → ((v next : ℕ) → NumberedValues (go v next)) → NumberedValues (onValue r go)
 value-numbered (accepted v next) go a b = b v next

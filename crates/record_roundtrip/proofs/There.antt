@@ -15,7 +15,7 @@ use Rattle.meaning.specs.Paths.{Grid}
 use Rattle.meaning.specs.Plate.{Plate, connectivityFits, greatestGrey, grey, maxPixels, maxSide, touch}
 use Rattle.meaning.specs.Record.{encode, fields, nodeFields, recordOf, treeFields, varint}
 use Rattle.meaning.specs.Sets.{area, elem, gather, nth, place, span, sum, table}
-use Rattle.theory_lists.proofs.Lists.{distinct-area, getD-table, length-table, table-suc}
+use Rattle.theory_lists.proofs.Lists.{distinct-area, gather-cong, getD-table, length-table, table-suc}
 use Rattle.theory_lists.proofs.Sets.{area-le}
 use Rattle.theory_lists.proofs.Sums.{area-pos}
 use Rattle.theory_lists.proofs.Tests.{either-cases, passes}
@@ -34,16 +34,11 @@ unfolding gather
 gather-first zero g = sym (append-nil (g 0))
 gather-first (suc m) g = ap (λ (l : List ℕ). l ++ g (suc m)) (gather-first m g) ∙ append-assoc (g 0) (gather m (λ (i : ℕ). g (suc i))) (g (suc m))
 
-gather-cong : (m : ℕ) (g g′ : ℕ → List ℕ) → ((i : ℕ) → g i ≡ g′ i) → gather m g ≡ gather m g′
-unfolding gather
-gather-cong zero g g′ e = refl
-gather-cong (suc m) g g′ e = rw (gather-cong m g g′ e, e m)
-
 -- ---- the fields of a plate's tree
 
 -- reading stands at a part of the record: the forms of vs and then those of the rest
-abbrev Stands : List ℕ → ℕ → List ℕ → Type 0
-Stands s at vs = drop at s ≡ encode vs ++ []
+abbrev EncodedAt : List ℕ → ℕ → List ℕ → Type 0
+EncodedAt s at vs = drop at s ≡ encode vs ++ []
 
 module _ {k w h : ℕ} {f : List ℕ} (pl : Plate k w h f) (s : List ℕ) where
   abbrev n : ℕ
@@ -91,16 +86,16 @@ module _ {k w h : ℕ} {f : List ℕ} (pl : Plate k w h f) (s : List ℕ) where
   record Through (left : ℕ) (levels : List ℕ) (at : ℕ) (rest : List ℕ) : Type 0 where
     next : ℕ
     reads : levelsFrom s n left levels at ≡ good (table (length xs) level) next
-    stands : Stands s next rest
+    stands : EncodedAt s next rest
 
   -- one node's three fields
   record Node (left i at : ℕ) (rest : List ℕ) : Type 0 where
     next : ℕ
     reads : levelsFrom s n (suc left) (table i level) at ≡ levelsFrom s n left (table (suc i) level) next
-    stands : Stands s next rest
+    stands : EncodedAt s next rest
 
   one-node : (left i at : ℕ) (rest : List ℕ) → 0 < i → i < length xs
-      → Stands s at ((i - up i) ∷ (level i - level (up i)) ∷ size i ∷ rest) → Node left i at rest
+      → EncodedAt s at ((i - up i) ∷ (level i - level (up i)) ∷ size i ∷ rest) → Node left i at rest
   unfolding levelsFrom
   one-node left i at rest pos l st =
       let lv : List ℕ = table i level in
@@ -118,10 +113,10 @@ module _ {k w h : ℕ} {f : List ℕ} (pl : Plate k w h f) (s : List ℕ) where
       let at₃ : ℕ = at₂ + length (varint (size i)) in
       let r₁ : fieldAt s at 1 (length lv) ≡ accepted back at₁ =
       encode-read s at back (rise ∷ size i ∷ rest) [] st 1 (length lv) (omega (arith, count-low, few)) (omega arith) (omega arith) in
-      let st₁ : Stands s at₁ (rise ∷ size i ∷ rest) = encode-rest s at back (rise ∷ size i ∷ rest) [] st in
+      let st₁ : EncodedAt s at₁ (rise ∷ size i ∷ rest) = encode-rest s at back (rise ∷ size i ∷ rest) [] st in
       let r₂ : fieldAt s at₁ 1 (greatestGrey - nth lv (length lv - back)) ≡ accepted rise at₂ =
       encode-read s at₁ rise (size i ∷ rest) [] st₁ 1 (greatestGrey - nth lv (length lv - back)) (omega arith) (omega arith) (omega arith) in
-      let st₂ : Stands s at₂ (size i ∷ rest) = encode-rest s at₁ rise (size i ∷ rest) [] st₁ in
+      let st₂ : EncodedAt s at₂ (size i ∷ rest) = encode-rest s at₁ rise (size i ∷ rest) [] st₁ in
       let r₃ : fieldAt s at₂ 1 n ≡ accepted (size i) at₃ = encode-read s at₂ (size i) rest [] st₂ 1 n (omega (arith, few, area)) (area .0) (area .1) in
       let sum : nth lv (length lv - back) + rise ≡ level i = omega arith in
       let grown : lv ++ ((nth lv (length lv - back) + rise) ∷ []) ≡ table (suc i) level = ap (λ (x : ℕ). lv ++ (x ∷ [])) sum ∙ sym (table-suc level i) in
@@ -140,10 +135,11 @@ module _ {k w h : ℕ} {f : List ℕ} (pl : Plate k w h f) (s : List ℕ) where
       ap (λ (l : List ℕ). l ++ rest) (gather-first left (λ (j : ℕ). g (i + j)))
       ∙ append-assoc (g (i + 0)) (gather left (λ (j : ℕ). g (i + suc j))) rest
       ∙ ap (λ (x : ℕ). g x ++ (gather left (λ (j : ℕ). g (i + suc j)) ++ rest)) (add-zero i)
-      ∙ ap (λ (l : List ℕ). g i ++ (l ++ rest)) (gather-cong left (λ (j : ℕ). g (i + suc j)) (λ (j : ℕ). g (suc i + j)) (λ j. ap g (add-suc i j ∙ sym (suc-add i j))))
+      ∙ ap (λ (l : List ℕ). g i ++ (l ++ rest))
+      (gather-cong left (λ (j : ℕ). g (i + suc j)) (λ (j : ℕ). g (suc i + j)) (λ j. ap g (add-suc i j ∙ sym (suc-add i j))))
 
   levels-there : (left i at : ℕ) (rest : List ℕ) → i + left ≡ length xs → 0 < i
-      → Stands s at (gather left (λ (j : ℕ). nodeFields n near (grey f) xs (i + j)) ++ rest) → Through left (table i level) at rest
+      → EncodedAt s at (gather left (λ (j : ℕ). nodeFields n near (grey f) xs (i + j)) ++ rest) → Through left (table i level) at rest
   unfolding levelsFrom gather
   levels-there zero i at rest e pos st = record {
     next = at;
@@ -161,12 +157,12 @@ module _ {k w h : ℕ} {f : List ℕ} (pl : Plate k w h f) (s : List ℕ) where
   abbrev mine : ℕ → ℕ
   mine = own n near (grey f) xs
 
-  record Spelt (left p at : ℕ) : Type 0 where
+  record GreysThere (left p at : ℕ) : Type 0 where
     next : ℕ
     reads : greysFrom s n (table (length xs) level) left at ≡ good (map (grey f) (span p left)) next
     ends : drop next s ≡ []
 
-  greys-there : (left p at : ℕ) → p + left ≡ n → Stands s at (map mine (span p left)) → Spelt left p at
+  greys-there : (left p at : ℕ) → p + left ≡ n → EncodedAt s at (map mine (span p left)) → GreysThere left p at
   unfolding greysFrom span encode
   greys-there zero p at e st = record { next = at; reads = refl; ends = st }
   greys-there (suc left) p at e st =
@@ -178,7 +174,7 @@ module _ {k w h : ℕ} {f : List ℕ} (pl : Plate k w h f) (s : List ℕ) where
       let rest : List ℕ = map mine (span (suc p) left) in
       let r : fieldAt s at 0 (length lv - 1) ≡ accepted (mine p) at₁ =
       encode-read s at (mine p) rest [] st 0 (length lv - 1) (omega (arith, count-low, few)) (omega arith) (omega arith) in
-      let others : Spelt left (suc p) at₁ = greys-there left (suc p) at₁ (omega arith) (encode-rest s at (mine p) rest [] st) in
+      let others : GreysThere left (suc p) at₁ = greys-there left (suc p) at₁ (omega arith) (encode-rest s at (mine p) rest [] st) in
       let level-is : nth lv (mine p) ≡ grey f p = getD-table (length xs) level (mine p) 0 low ∙ own-level grid nodes p l in
       record {
         next = others .next;
@@ -215,7 +211,7 @@ module _ {k w h : ℕ} {f : List ℕ} (pl : Plate k w h f) where
   some-nodes = some-node (plate-grid pl) (plate-nodes pl) 0 (plate-some pl)
 
   -- the record's fields, one after the other
-  bytes-stand : Stands bytes 0 (w ∷ h ∷ k ∷ count ∷ root ∷ w * h ∷ fields-nodes)
+  bytes-stand : EncodedAt bytes 0 (w ∷ h ∷ k ∷ count ∷ root ∷ w * h ∷ fields-nodes)
   unfolding recordOf fields treeFields table
   bytes-stand =
       let g : ℕ → List ℕ = nodeFields (length f) (touch k w) (grey f) (nodesOf k w f) in
@@ -242,18 +238,24 @@ module _ {k w h : ℕ} {f : List ℕ} (pl : Plate k w h f) where
       let kind : k ≤ 8 = kind-low k (pl .kind) in
       let few-nodes : count ≤ w * h = omega (arith, count-low pl bytes, pl .long) in
       let dark : root ≤ greatestGrey = level-low pl bytes 0 some-nodes in
-      let r₁ : fieldAt bytes 0 1 maxSide ≡ accepted w at₁ = encode-read bytes 0 w (h ∷ rest₂) [] st₀ 1 maxSide (omega (arith, sz .wide .most)) (sz .wide .least) (sz .wide .most) in
-      let st₁ : Stands bytes at₁ (h ∷ rest₂) = encode-rest bytes 0 w (h ∷ rest₂) [] st₀ in
-      let r₂ : fieldAt bytes at₁ 1 maxSide ≡ accepted h at₂ = encode-read bytes at₁ h rest₂ [] st₁ 1 maxSide (omega (arith, sz .high .most)) (sz .high .least) (sz .high .most) in
-      let st₂ : Stands bytes at₂ rest₂ = encode-rest bytes at₁ h rest₂ [] st₁ in
-      let r₃ : fieldAt bytes at₂ 0 (fieldBound - 1) ≡ accepted k at₃ = encode-read bytes at₂ k (count ∷ rest₃) [] st₂ 0 (fieldBound - 1) (omega arith) (omega arith) (omega arith) in
-      let st₃ : Stands bytes at₃ (count ∷ rest₃) = encode-rest bytes at₂ k (count ∷ rest₃) [] st₂ in
-      let r₄ : fieldAt bytes at₃ 1 (w * h) ≡ accepted count at₄ = encode-read bytes at₃ count rest₃ [] st₃ 1 (w * h) (omega (arith, sz .few-pixels)) some-nodes few-nodes in
-      let st₄ : Stands bytes at₄ rest₃ = encode-rest bytes at₃ count rest₃ [] st₃ in
-      let r₅ : fieldAt bytes at₄ 0 greatestGrey ≡ accepted root at₅ = encode-read bytes at₄ root (w * h ∷ fields-nodes) [] st₄ 0 greatestGrey (omega arith) (omega arith) dark in
-      let st₅ : Stands bytes at₅ (w * h ∷ fields-nodes) = encode-rest bytes at₄ root (w * h ∷ fields-nodes) [] st₄ in
-      let r₆ : fieldAt bytes at₅ 1 (w * h) ≡ accepted (w * h) at₆ = encode-read bytes at₅ (w * h) fields-nodes [] st₅ 1 (w * h) (omega (arith, sz .few-pixels)) (omega (arith, plate-some pl, pl .long)) (le-refl (w * h)) in
-      let st₆ : Stands bytes at₆ fields-nodes = encode-rest bytes at₅ (w * h) fields-nodes [] st₅ in
+      let r₁ : fieldAt bytes 0 1 maxSide ≡ accepted w at₁ =
+      encode-read bytes 0 w (h ∷ rest₂) [] st₀ 1 maxSide (omega (arith, sz .wide .most)) (sz .wide .least) (sz .wide .most) in
+      let st₁ : EncodedAt bytes at₁ (h ∷ rest₂) = encode-rest bytes 0 w (h ∷ rest₂) [] st₀ in
+      let r₂ : fieldAt bytes at₁ 1 maxSide ≡ accepted h at₂ =
+      encode-read bytes at₁ h rest₂ [] st₁ 1 maxSide (omega (arith, sz .high .most)) (sz .high .least) (sz .high .most) in
+      let st₂ : EncodedAt bytes at₂ rest₂ = encode-rest bytes at₁ h rest₂ [] st₁ in
+      let r₃ : fieldAt bytes at₂ 0 (fieldBound - 1) ≡ accepted k at₃ =
+      encode-read bytes at₂ k (count ∷ rest₃) [] st₂ 0 (fieldBound - 1) (omega arith) (omega arith) (omega arith) in
+      let st₃ : EncodedAt bytes at₃ (count ∷ rest₃) = encode-rest bytes at₂ k (count ∷ rest₃) [] st₂ in
+      let r₄ : fieldAt bytes at₃ 1 (w * h) ≡ accepted count at₄ =
+      encode-read bytes at₃ count rest₃ [] st₃ 1 (w * h) (omega (arith, sz .few-pixels)) some-nodes few-nodes in
+      let st₄ : EncodedAt bytes at₄ rest₃ = encode-rest bytes at₃ count rest₃ [] st₃ in
+      let r₅ : fieldAt bytes at₄ 0 greatestGrey ≡ accepted root at₅ =
+      encode-read bytes at₄ root (w * h ∷ fields-nodes) [] st₄ 0 greatestGrey (omega arith) (omega arith) dark in
+      let st₅ : EncodedAt bytes at₅ (w * h ∷ fields-nodes) = encode-rest bytes at₄ root (w * h ∷ fields-nodes) [] st₄ in
+      let r₆ : fieldAt bytes at₅ 1 (w * h) ≡ accepted (w * h) at₆ =
+      encode-read bytes at₅ (w * h) fields-nodes [] st₅ 1 (w * h) (omega (arith, sz .few-pixels)) (omega (arith, plate-some pl, pl .long)) (le-refl (w * h)) in
+      let st₆ : EncodedAt bytes at₆ fields-nodes = encode-rest bytes at₅ (w * h) fields-nodes [] st₅ in
       let thr = levels-there pl bytes (count - 1) 1 at₆ fields-own (omega (arith, some-nodes)) (omega arith) st₆ in
       let spl = greys-there pl bytes (length f) 0 (thr .next) (zero-add (length f)) (thr .stands) in
       let r₇ : levelsFrom bytes (w * h) (count - 1) (root ∷ []) at₆ ≡ good (table count (levelOf (length f) (touch k w) (grey f) (nodesOf k w f))) (thr .next) =
@@ -262,7 +264,20 @@ module _ {k w h : ℕ} {f : List ℕ} (pl : Plate k w h f) where
       ap (λ (m : ℕ). greysFrom bytes m (table count (levelOf (length f) (touch k w) (grey f) (nodesOf k w f))) m (thr .next)) (sym (pl .long))
       ∙ spl .reads ∙ ap (λ (l : List ℕ). good l (spl .next)) (table-grey f) in
       let ended : length bytes ≤ spl .next = omega (arith, length-drop (spl .next) bytes, ap length (spl .ends)) in
-      rw (r₁, r₂, le-ltb maxPixels (w * h) (sz .few-pixels), r₃, pl .kind, r₄, le-ltb work (8 * (w * h)) room, r₅, r₆, r₇, r₈, le-ltb (spl .next) (length bytes) ended)
+      rw (
+        r₁,
+        r₂,
+        le-ltb maxPixels (w * h) (sz .few-pixels),
+        r₃,
+        pl .kind,
+        r₄,
+        le-ltb work (8 * (w * h)) room,
+        r₅,
+        r₆,
+        r₇,
+        r₈,
+        le-ltb (spl .next) (length bytes) ended,
+      )
 
 -- ---- and 24
 

@@ -18,17 +18,17 @@ use Rattle.meaning.specs.Record.{recordOf}
 use Rattle.work_columns.specs.Columns.{Frame, Room, col}
 use Rattle.work_columns.specs.Layout.{Buildable, Built, GREY}
 use Rattle.work_columns.proofs.Columns.{frame-room, frame-trans}
+use Rattle.theory_lists.proofs.Lists.{getD-table}
 use Rattle.theory_connectivity.proofs.Sizes.{grid-sizes}
 use Rattle.plate_greys.specs.Standing.{Standing}
 use Rattle.plate_greys.specs.Tree.{TreeFacts}
 use Rattle.plate_greys.proofs.Tree.{grow}
 use Rattle.plate_greys.proofs.Views.{column-plate}
-use Rattle.record_parse.specs.Parse.{Parsed, ParsedWork, compared, early, late, parse, plate, readOf, sameBytes}
-use Rattle.record_parse.specs.Steps.{outcome}
+use Rattle.record_parse.specs.Parse.{Parsed, compared, parse, plate, readOf, sameBytes}
 use Rattle.record_parse.proofs.Sound.{parse-plate}
-use Rattle.record_fields.specs.Fields.{plateIn}
+use Rattle.record_parse.specs.Steps.{ParsedWork, greysIn, parsedBy}
 use Rattle.record_fields.proofs.Standing.{standing-here, standing-plate}
-use Rattle.record_tree.specs.Found.{FoundIs, ahead, behind, stands, Clearable, unspeltOf}
+use Rattle.record_tree.specs.Found.{Clearable, FoundIs, unspeltOf}
 
 -- ---- the work space
 
@@ -42,112 +42,100 @@ cleared {n} f e = e ∙ ap (λ (t : List ℕ). replicate (8 * n) 0 ++ t) (f .tai
 abbrev pub NoPlate : Parse → Type 0
 NoPlate p = OneOf (0 ∷ 1 ∷ []) (tagOf the-type p)
 
-pub unspelt-found : (s : List ℕ) (P : Parsed) {w w′ : List ℕ} {p : Parse} {r : Found} → p ≡ outcome P → ParsedWork P w w′ → NoPlate p
+pub unspelt-found : (s w w′ : List ℕ) {P : Parsed} (p : Parse) {r : Found} → parsedBy p w′ ≡ P → ParsedWork p w w′ → NoPlate p
     → r ≡ unspeltOf p → FoundIs (compared s P) w w′ r
-unspelt-found s (early number) e x other is = rw (x, is, e) ahead
-unspelt-found s (late number pixels) e x other is = rw (is, e) (behind (x .0) (x .1))
-unspelt-found s (plate k w h f) e x other is =
-    let m : (_≡_ {A = ℕ} 2 0) ⊎ (_≡_ {A = ℕ} 2 1) = rw e at other in
+unspelt-found s w w′ (Parse.Early number) e x other is = rw is (record { answer = ap (compared s) e; space = x })
+unspelt-found s w w′ (Parse.Late number pixels) e x other is = rw is (record { answer = ap (compared s) e; space = x })
+unspelt-found s w w′ (Parse.Plate wd ht k) e x other is =
+    let m : (_≡_ {A = ℕ} 2 0) ⊎ (_≡_ {A = ℕ} 2 1) = other in
     absurd (⊎-elim (λ z. omega arith) (λ z. omega arith) m)
 
 -- ---- a plate
 
 -- what parsing leaves of a plate: width wd, height ht, connectivity k
 pub record PlateSpelt (s work work′ : List ℕ) (wd ht k : ℕ) : Type 0 where
-  pub f : List ℕ
-  pub parsed : parse s (length work) ≡ plate k wd ht f
-  pub accepted : Plate k wd ht f
+  pub parsed : parse s (length work) ≡ plate k wd ht (greysIn (wd * ht) work′)
+  pub accepted : Plate k wd ht (greysIn (wd * ht) work′)
   pub room : Room work (wd * ht)
   pub frame : Frame (wd * ht) work work′
-  pub greys : (p : ℕ) → p < wd * ht → col GREY (wd * ht) work′ p ≡ grey f p
 
--- the answer says which plate it is: a plate's outcome is its sizes and its connectivity
-same-plate : {a b c k w h : ℕ} → _≡_ {A = Parse} (Parse.Plate w h k) (Parse.Plate a b c) → (w ≡ a) × (h ≡ b) × (k ≡ c)
-same-plate e = (cc, cc, cc)
-
-pub spelt : (s : List ℕ) {work work′ : List ℕ} {p : Parse} {wd ht k : ℕ} (P : Parsed) → parse s (length work) ≡ P → p ≡ outcome P → ParsedWork P work work′
+pub spelt : (s : List ℕ) {work work′ : List ℕ} {p : Parse} {wd ht k : ℕ} → parsedBy p work′ ≡ parse s (length work) → ParsedWork p work work′
     → p ≡ Parse.Plate wd ht k → PlateSpelt s work work′ wd ht k
-spelt s (early number) q e x is = let z : _≡_ {A = Parse} (Parse.Early number) (Parse.Plate _ _ _) = sym e ∙ is in absurd (let y : _≡_ {A = ℕ} 0 1 = cc in omega arith)
-spelt s (late number pixels) q e x is = let z : _≡_ {A = Parse} (Parse.Late number pixels) (Parse.Plate _ _ _) = sym e ∙ is in absurd (let y : _≡_ {A = ℕ} 0 1 = cc in omega arith)
-spelt s {work} (plate k w h f) q e x is =
-    let same = same-plate (sym e ∙ is) in
-    rw (← (same .0), ← (same .1), ← (same .2)) (record {
-      f = f;
-      parsed = q;
-      accepted = parse-plate s k w h f (length work) q .0;
-      room = x .0 .0;
-      frame = x .0 .1;
-      greys = x .1 .1;
-    })
+spelt s {work} {work′} {p} {wd} {ht} {k} e x is =
+    let parsed : parse s (length work) ≡ plate k wd ht (greysIn (wd * ht) work′) = sym e ∙ ap (λ (q : Parse). parsedBy q work′) is in
+    let y : ParsedWork (Parse.Plate wd ht k) work work′ = rw is at x in
+    record {
+      parsed = parsed;
+      accepted = parse-plate s k wd ht (greysIn (wd * ht) work′) (length work) parsed .0;
+      room = y .0;
+      frame = y .1;
+    }
 
 module _ {s work w₁ : List ℕ} {wd ht k : ℕ} (sp : PlateSpelt s work w₁ wd ht k) where
   -- the product of the sizes fits
   pub spelt-few : wd * ht ≤ 16777216
   spelt-few = grid-sizes wd ht (sp .accepted .sizes) .few-pixels
 
-  module _ {n : ℕ} (e : n ≡ wd * ht) where
-    long : length (sp .f) ≡ n
-    long = sp .accepted .long ∙ sym e
+  abbrev f : List ℕ
+  f = greysIn (wd * ht) w₁
 
-    -- the tree can be built
-    pub spelt-buildable : Buildable k wd ht n w₁
-    spelt-buildable = rw e (record {
-      room = frame-room (sp .room) (sp .frame);
-      kind = sp .accepted .kind;
-      sizes = sp .accepted .sizes;
-      pixels = refl;
-      greys = λ p l. omega (arith, sp .greys p l, sp .accepted .greys p (omega (arith, sp .accepted .long)));
-    })
+  greys : (p : ℕ) → p < wd * ht → col GREY (wd * ht) w₁ p ≡ grey f p
+  greys p l = sym (getD-table (wd * ht) (col GREY (wd * ht) w₁) p 0 l)
 
-    module _ {w₂ : List ℕ} {count : ℕ} (b : Built k wd n w₁ w₂ count) where
-      -- and then stands
-      pub spelt-standing : Standing k wd ht (sp .f) w₂ count
-      spelt-standing =
-          let greys : (p : ℕ) → p < n → col GREY n w₁ p ≡ grey (sp .f) p = rw e (sp .greys) in
-          let room : Room w₂ n = frame-room (spelt-buildable .room) (b .frame) in
-          let same : col GREY n w₂ ≡ grey (sp .f) = b .same ∙ column-plate GREY n w₁ (sp .f) long greys in
-          let grown : TreeFacts k wd n w₂ count = grow spelt-buildable b in
-          record { plate = sp .accepted; room = rw long room; same = rw long same; facts = rw long grown }
+  -- the tree can be built
+  pub spelt-buildable : Buildable k wd ht (wd * ht) w₁
+  spelt-buildable = record {
+    room = frame-room (sp .room) (sp .frame);
+    kind = sp .accepted .kind;
+    sizes = sp .accepted .sizes;
+    pixels = refl;
+    greys = λ p l. omega (arith, greys p l, sp .accepted .greys p (omega (arith, sp .accepted .long)));
+  }
 
-      pub spelt-here : Standing k wd ht (plateIn n w₂) w₂ count
-      spelt-here = standing-here spelt-standing n (sym long)
+  module _ {w₂ : List ℕ} {count : ℕ} (b : Built k wd (wd * ht) w₁ w₂ count) where
+    -- and then stands
+    spelt-standing : Standing k wd ht f w₂ count
+    spelt-standing =
+        let long : length f ≡ wd * ht = sp .accepted .long in
+        let room : Room w₂ (wd * ht) = frame-room (spelt-buildable .room) (b .frame) in
+        let same : col GREY (wd * ht) w₂ ≡ grey f = b .same ∙ column-plate GREY (wd * ht) w₁ f long greys in
+        let grown : TreeFacts k wd (wd * ht) w₂ count = grow spelt-buildable b in
+        record { plate = sp .accepted; room = rw long room; same = rw long same; facts = rw long grown }
 
-      plain : plateIn n w₂ ≡ sp .f
-      plain = standing-plate spelt-standing n (sym long)
+    pub spelt-here : Standing k wd ht (greysIn (wd * ht) w₂) w₂ count
+    spelt-here = standing-here spelt-standing (wd * ht) (sym (sp .accepted .long))
 
-      whole : Frame (wd * ht) work w₂
-      whole = frame-trans (sp .frame) (rw (← e) (b .frame))
+    whole : Frame (wd * ht) work w₂
+    whole = frame-trans (sp .frame) (b .frame)
 
-      -- 24
-      pub found-different : sameBytes s (recordOf k wd ht (plateIn n w₂)) ≡ false → FoundIs (readOf s (length work)) work w₂ (Late 24 n)
-      unfolding readOf
-      found-different differs = rw (sp .parsed, rw plain at differs, e) (behind (sp .room) whole)
+    read-is : readOf s (length work) ≡ compared s (plate k wd ht (greysIn (wd * ht) w₂))
+    unfolding readOf
+    read-is =
+        let plain : f ≡ greysIn (wd * ht) w₂ = sym (standing-plate spelt-standing (wd * ht) (sym (sp .accepted .long))) in
+        ap (compared s) (sp .parsed) ∙ ap (λ (g : List ℕ). compared s (plate k wd ht g)) plain
 
-      -- a plate's record
-      pub found-tree : sameBytes s (recordOf k wd ht (plateIn n w₂)) ≡ true → FoundIs (readOf s (length work)) work w₂ (Tree wd ht k count)
-      unfolding readOf
-      found-tree same = rw (sp .parsed, rw plain at same) (stands whole spelt-standing)
+    -- 24
+    pub found-different : sameBytes s (recordOf k wd ht (greysIn (wd * ht) w₂)) ≡ false → FoundIs (readOf s (length work)) work w₂ (Late 24 (wd * ht))
+    found-different differs = record { answer = sym (read-is ∙ rw differs); space = (sp .room, whole) }
+
+    -- a plate's record
+    pub found-tree : sameBytes s (recordOf k wd ht (greysIn (wd * ht) w₂)) ≡ true → FoundIs (readOf s (length work)) work w₂ (Tree wd ht k count)
+    found-tree same = record { answer = sym (read-is ∙ rw same); space = (whole, spelt-here) }
 
 -- ---- giving up, and going on
 
-pub found-clearable : {P : Parsed} {w w′ : List ℕ} {t : Found} → FoundIs P w w′ t → Clearable t w′
-found-clearable ahead = tt
-found-clearable (behind r f) = frame-room r f
-found-clearable (stands f st) = tt
+pub found-clearable : {P : Parsed} {w w′ : List ℕ} (t : Found) → FoundIs P w w′ t → Clearable t w′
+found-clearable (Early number) x = tt
+found-clearable (Late number pixels) x = frame-room (x .space .0) (x .space .1)
+found-clearable (Tree wd ht k count) x = tt
 
 -- what an operation that goes on knows
 pub record TreeFound (P : Parsed) (wd ht k : ℕ) (w w′ : List ℕ) (count : ℕ) : Type 0 where
-  pub f : List ℕ
-  pub is : P ≡ plate k wd ht f
+  pub is : P ≡ plate k wd ht (greysIn (wd * ht) w′)
   pub frame : Frame (wd * ht) w w′
-  pub standing : Standing k wd ht f w′ count
-
-same-tree : {a b c d k w h m : ℕ} → _≡_ {A = Found} (Tree w h k m) (Tree a b c d) → (w ≡ a) × (h ≡ b) × (k ≡ c) × (m ≡ d)
-same-tree e = (cc, cc, cc, cc)
+  pub standing : Standing k wd ht (greysIn (wd * ht) w′) w′ count
 
 pub tree-found : {P : Parsed} {w w′ : List ℕ} {t : Found} {wd ht k count : ℕ} → FoundIs P w w′ t → t ≡ Tree wd ht k count → TreeFound P wd ht k w w′ count
-tree-found ahead e = absurd (let y : _≡_ {A = ℕ} 0 1 = cc in omega arith)
-tree-found (behind r f) e = absurd (let y : _≡_ {A = ℕ} 0 1 = cc in omega arith)
-tree-found (stands fr st) e =
-    let same = same-tree e in
-    rw (← (same .0), ← (same .1), ← (same .2), ← (same .3)) (record { f = _; is = refl; frame = fr; standing = st })
+tree-found {P} {w} {w′} {wd = wd} {ht = ht} {k = k} {count = count} x is =
+    let y : FoundIs P w w′ (Tree wd ht k count) = rw is at x in
+    record { is = sym (y .answer); frame = y .space .0; standing = y .space .1 }

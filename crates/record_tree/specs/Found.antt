@@ -1,4 +1,5 @@
 -- What reading a record finds, up to 24, and what it leaves in the work space.
+use mathlib.Core.Path.{_≡_}
 use mathlib.Core.Bool.{true}
 use mathlib.Core.List.{List}
 use Prim.Native.Nat.{ℕ, _*_, _≤_}
@@ -8,23 +9,35 @@ use Rattle.work_columns.specs.Columns.{Frame, Room}
 use Rattle.work_columns.specs.Layout.{Greys}
 use Rattle.plate_greys.specs.Standing.{Standing}
 use Rattle.record_parse.specs.Parse.{Parsed, early, late, plate}
+use Rattle.record_parse.specs.Steps.{greysIn}
 use Rattle.record_parse.specs.declared.Parse.{Parse}
 use Rattle.record_tree.specs.declared.Found.{Found}
 use Rattle.record_tree.specs.declared.Found.the-variants.{Early, Late, Tree}
 
--- the answer and the work space, for what the definitions find: nothing has changed ahead of the work; after 6 only the eight columns have; the tree of
--- an accepted plate stands in them
-pub data FoundIs : Parsed → List ℕ → List ℕ → Found → Type 0 where
-  ahead : {number : ℕ} {work : List ℕ} → FoundIs (early number) work work (Early number)
-  behind : {number pixels : ℕ} {work work′ : List ℕ} → Room work pixels → Frame pixels work work′ → FoundIs (late number pixels) work work′ (Late number pixels)
-  stands : {k w h count : ℕ} {f work work′ : List ℕ} → Frame (w * h) work work′ → Standing k w h f work′ count
-      → FoundIs (plate k w h f) work work′ (Tree w h k count)
+-- an answer in the specification's terms: the number of the refusal, with the pixels where work had begun; else the plate of that width, height and
+-- connectivity whose greys stand in the work space w
+abbrev pub foundBy : Found → List ℕ → Parsed
+foundBy (Early number) w = early number
+foundBy (Late number pixels) w = late number pixels
+foundBy (Tree wd ht k count) w = plate k wd ht (greysIn (wd * ht) w)
+
+-- what it leaves in the work space: all as it was where no work had begun, else changes in the eight columns only, where the tree of an accepted plate
+-- stands, with so many nodes
+abbrev pub FoundWork : Found → List ℕ → List ℕ → Type 0
+FoundWork (Early number) w w′ = w′ ≡ w
+FoundWork (Late number pixels) w w′ = Room w pixels × Frame pixels w w′
+FoundWork (Tree wd ht k count) w w′ = Frame (wd * ht) w w′ × Standing k wd ht (greysIn (wd * ht) w′) w′ count
+
+-- so it is where reading finds P
+pub record FoundIs (P : Parsed) (w w′ : List ℕ) (r : Found) : Type 0 where
+  pub answer : foundBy r w′ ≡ P
+  pub space : FoundWork r w w′
 
 -- the specification's number of a refusal
-abbrev pub numberOf : Found → ℕ
-numberOf (Early number) = number
-numberOf (Late number pixels) = number
-numberOf (Tree w h k count) = 0
+abbrev pub foundNumber : Found → ℕ
+foundNumber (Early number) = number
+foundNumber (Late number pixels) = number
+foundNumber (Tree w h k count) = 0
 
 -- there are columns to clear
 abbrev pub Clearable : Found → List ℕ → Type 0

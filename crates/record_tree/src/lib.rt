@@ -2,12 +2,12 @@
 ghost use mathlib.Core.Path.{_≡_};
 ghost use lib.ListN.{length};
 ghost use Rattle.meaning.specs.Answers.{over};
-ghost use Rattle.record_fields.specs.Fields.{plateIn};
+ghost use Rattle.record_parse.specs.Steps.{greysIn};
 ghost use Rattle.record_parse.specs.Parse.{readOf};
-ghost use Rattle.record_tree.specs.Found.{FoundIs, numberOf, Clearable, clearedBy, unspeltOf, GreysStand};
+ghost use Rattle.record_tree.specs.Found.{FoundIs, foundNumber, Clearable, clearedBy, unspeltOf, GreysStand};
 use record_parse::Parse;
 
-// What reading a record finds, up to 24. `FoundIs` says it in the specification's terms.
+// What reading a record finds, up to 24. `foundBy` says it in the specification's terms.
 pub enum Found {
     // Refused by 6 or ahead of it, so that no work has begun: the specification's number.
     Early(u32),
@@ -53,7 +53,7 @@ pub fn read_tree(bytes: &[u8], work: &mut [u32]) -> Found
 // the specification's number of a refusal; the work space is zeroed where the work had begun.
 pub fn give_up(f: Found, work: &mut [u32]) -> u32
     requires { ⌜ Clearable f (now work) ⌝ }
-    ensures { λ r. ⌜ (r ≡ numberOf f) × (now (work .exit) ≡ clearedBy f (now (work .entry))) ⌝ }
+    ensures { λ r. ⌜ (r ≡ foundNumber f) × (now (work .exit) ≡ clearedBy f (now (work .entry))) ⌝ }
 {
     match f {
         Found::Early(number) => number,
@@ -68,7 +68,7 @@ pub fn give_up(f: Found, work: &mut [u32]) -> u32
 // Writes the greys in the work space.
 pub fn write_greys(w: &[u32], n: usize, out: &mut [u8])
     requires { ⌜ GreysStand n (now w) (now out) ⌝ }
-    ensures { λ _. ⌜ now (out .exit) ≡ over (plateIn n (now (w .entry))) (now (out .entry)) ⌝ }
+    ensures { λ _. ⌜ now (out .exit) ≡ over (greysIn n (now (w .entry))) (now (out .entry)) ⌝ }
 {
     let mut p: usize = 0;
     while p < n {

@@ -118,7 +118,8 @@ module _ (s : List ℕ) (at v : ℕ) (vs r : List ℕ) (stands : drop at s ≡ e
       sym (drop-drop (length (varint v)) at s) ∙ ap (λ (l : List ℕ). drop (length (varint v)) l) first-form ∙ drop-append-seam (varint v) (encode vs ++ r)
 
 -- a number that was accepted, before the forms of others
-pub accepted-encode : (s : List ℕ) (at lo hi v next : ℕ) (vs r : List ℕ) → Accepted s at lo hi v next → drop next s ≡ encode vs ++ r → drop at s ≡ encode (v ∷ vs) ++ r
+pub accepted-encode : (s : List ℕ) (at lo hi v next : ℕ) (vs r : List ℕ) → Accepted s at lo hi v next → drop next s ≡ encode vs ++ r
+    → drop at s ≡ encode (v ∷ vs) ++ r
 unfolding encode
 accepted-encode s at lo hi v next vs r p e =
     p .form ∙ ap (λ (l : List ℕ). varint v ++ l) e ∙ sym (append-assoc (varint v) (encode vs) r)

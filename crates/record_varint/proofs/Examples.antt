@@ -3,7 +3,7 @@ use mathlib.Core.Path.{_≡_, refl}
 use mathlib.Core.List.{List, [], _∷_, map}
 use Prim.Native.Nat.{ℕ}
 use Rattle.meaning.specs.Record.{groups}
-use Rattle.record_varint.specs.Field.{lead, value, starts, fieldOf, Reading, accepted, refused}
+use Rattle.record_varint.specs.Field.{continued, value, starts, fieldOf, Reading, accepted, refused}
 
 pub record Case : Type 0 where
   pub bytes : List ℕ
@@ -36,5 +36,5 @@ cases =
     ∷ []
 
 pub fields-read : map (λ (c : Case). fieldOf (c .bytes) 7 (c .low) (c .high)) cases ≡ map (λ (c : Case). c .answer) cases
-unfolding fieldOf lead value starts groups
+unfolding fieldOf continued value starts groups
 fields-read = refl

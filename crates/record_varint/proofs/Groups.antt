@@ -8,7 +8,7 @@ use native.Mathlib.Decide.{decLt}
 use lib.ListN.{length, getD}
 use borrow.Author.Tests.{lt-ltb, le-ltb}
 use Rattle.meaning.specs.Record.{groups, varint}
-use Rattle.record_varint.specs.Field.{lead, value, fieldBound}
+use Rattle.record_varint.specs.Field.{continued, value, fieldBound}
 
 -- ---- one step of each definition
 module _ (k v : ℕ) where
@@ -21,13 +21,13 @@ module _ (k v : ℕ) where
   groups-high h = rw (le-ltb v 128 h, groups)
 
 module _ (b : ℕ) (l : List ℕ) where
-  pub lead-low : b < 128 → lead (b ∷ l) ≡ 0
-  unfolding lead
-  lead-low h = rw (lt-ltb b 128 h, lead)
+  pub continued-low : b < 128 → continued (b ∷ l) ≡ 0
+  unfolding continued
+  continued-low h = rw (lt-ltb b 128 h, continued)
 
-  pub lead-high : 128 ≤ b → lead (b ∷ l) ≡ suc (lead l)
-  unfolding lead
-  lead-high h = rw (le-ltb b 128 h, lead)
+  pub continued-high : 128 ≤ b → continued (b ∷ l) ≡ suc (continued l)
+  unfolding continued
+  continued-high h = rw (le-ltb b 128 h, continued)
 
   pub value-low : b < 128 → value (b ∷ l) ≡ b
   unfolding value

@@ -12,23 +12,23 @@ use lib.ListN.{length, getD, drop, drop-of-length-le, length-drop}
 use lib.Seq.{drop-cons, getD-drop}
 use borrow.Author.Tests.{ltb-true, lt-ltb, leb-true, eqb-true, eqb-false}
 use Rattle.meaning.specs.Record.{varint}
-use Rattle.record_varint.specs.Field.{lead, value, starts, fieldBound, accepted, refused, fieldAt}
-use Rattle.record_varint.proofs.Groups.{cap, cap-more, varint-most, lead-low, lead-high, value-low, value-high}
+use Rattle.record_varint.specs.Field.{continued, value, starts, fieldBound, accepted, refused, fieldAt}
+use Rattle.record_varint.proofs.Groups.{cap, cap-more, varint-most, continued-low, continued-high, value-low, value-high}
 use Rattle.record_varint.proofs.Starts.{and-left, and-right, and-not}
 use Rattle.record_varint.proofs.Form.{Bytes, form-lead, form-last, shortest-form}
 use Rattle.record_varint.proofs.Reading.{field-unended, field-malformed, field-outside, field-accepted}
 
 -- ---- one byte at a position
 module _ (s : List ℕ) (i : ℕ) where
-  pub lead-here : i < length s → getD s i 0 < 128 → lead (drop i s) ≡ 0
-  lead-here h b = rw (drop-cons s i 0, lead-low)
+  pub continued-here : i < length s → getD s i 0 < 128 → continued (drop i s) ≡ 0
+  continued-here h b = rw (drop-cons s i 0, continued-low)
 
-  pub lead-next : i < length s → 128 ≤ getD s i 0 → lead (drop i s) ≡ suc (lead (drop (suc i) s))
-  lead-next h b = rw (drop-cons s i 0, lead-high)
+  pub continued-next : i < length s → 128 ≤ getD s i 0 → continued (drop i s) ≡ suc (continued (drop (suc i) s))
+  continued-next h b = rw (drop-cons s i 0, continued-high)
 
-  pub lead-none : length s ≤ i → lead (drop i s) ≡ 0
-  unfolding lead
-  lead-none h = rw drop-of-length-le
+  pub continued-none : length s ≤ i → continued (drop i s) ≡ 0
+  unfolding continued
+  continued-none h = rw drop-of-length-le
 
   value-here : i < length s → getD s i 0 < 128 → value (drop i s) ≡ getD s i 0
   value-here h b = rw (drop-cons s i 0, value-low)
@@ -36,19 +36,20 @@ module _ (s : List ℕ) (i : ℕ) where
   value-next : i < length s → 128 ≤ getD s i 0 → value (drop i s) ≡ (getD s i 0 - 128) + 128 * value (drop (suc i) s)
   value-next h b = rw (drop-cons s i 0, value-high)
 
--- ---- the bytes that lead have the top bit set, and the one after them has not
-lead-high-at : (l : List ℕ) (k : ℕ) → k < lead l → 128 ≤ getD l k 0
-unfolding lead
-lead-high-at [] k h = absurd (omega arith)
-lead-high-at (b ∷ l) zero h = by-cases (decLt b 128) (λ low. absurd (omega (arith, lead-low b l low))) (λ high. omega arith)
-lead-high-at (b ∷ l) (suc k) h =
-    by-cases (decLt b 128) (λ low. absurd (omega (arith, lead-low b l low))) (λ high. lead-high-at l k (omega (arith, lead-high b l (omega arith))))
+-- ---- the bytes that continued have the top bit set, and the one after them has not
+continued-high-at : (l : List ℕ) (k : ℕ) → k < continued l → 128 ≤ getD l k 0
+unfolding continued
+continued-high-at [] k h = absurd (omega arith)
+continued-high-at (b ∷ l) zero h = by-cases (decLt b 128) (λ low. absurd (omega (arith, continued-low b l low))) (λ high. omega arith)
+continued-high-at (b ∷ l) (suc k) h =
+    by-cases (decLt b 128) (λ low. absurd (omega (arith, continued-low b l low)))
+    (λ high. continued-high-at l k (omega (arith, continued-high b l (omega arith))))
 
-lead-low-at : (l : List ℕ) → lead l < length l → getD l (lead l) 0 < 128
-lead-low-at [] h = absurd (omega arith)
-lead-low-at (b ∷ l) h =
-    by-cases (decLt b 128) (λ low. rw lead-low low)
-    (λ high. let le : 128 ≤ b = omega arith in rw lead-high (lead-low-at l (omega (arith, lead-high b l le))))
+continued-low-at : (l : List ℕ) → continued l < length l → getD l (continued l) 0 < 128
+continued-low-at [] h = absurd (omega arith)
+continued-low-at (b ∷ l) h =
+    by-cases (decLt b 128) (λ low. rw continued-low low)
+    (λ high. let le : 128 ≤ b = omega arith in rw continued-high (continued-low-at l (omega (arith, continued-high b l le))))
 
 -- ---- spelling the number, from its last group to its first
 -- the groups from i to the end spell v
@@ -58,15 +59,15 @@ pub record FieldSpelt (s : List ℕ) (at end i v : ℕ) : Type 0 where
   pub spells : v ≡ value (drop i s)
   pub few : v < cap (suc (end - i))
 
-module _ (s : List ℕ) (at end : ℕ) (h : end < length s) (ends : end ≡ at + lead (drop at s)) where
+module _ (s : List ℕ) (at end : ℕ) (h : end < length s) (ends : end ≡ at + continued (drop at s)) where
   -- each byte before the last has its top bit set
   pub top-set : (i : ℕ) → at ≤ i → i < end → 128 ≤ getD s i 0
-  top-set i a b = let e : at + (i - at) ≡ i = omega arith in rw (getD-drop, e) at (lead-high-at (drop at s) (i - at) (omega arith))
+  top-set i a b = let e : at + (i - at) ≡ i = omega arith in rw (getD-drop, e) at (continued-high-at (drop at s) (i - at) (omega arith))
 
   pub spelt-last : (v : ℕ) → v ≡ getD s end 0 → FieldSpelt s at end end v
   unfolding cap
   spelt-last v is =
-      let low : getD s end 0 < 128 = rw (getD-drop, ← ends) at (lead-low-at (drop at s) (omega (arith, length-drop at s))) in
+      let low : getD s end 0 < 128 = rw (getD-drop, ← ends) at (continued-low-at (drop at s) (omega (arith, length-drop at s))) in
       record {
         from = omega arith;
         to = omega arith;
@@ -102,20 +103,20 @@ zeroLast s at end = ltb at end && eqb (getD s end 0) 0
 
 -- the bytes from `at` to the end are the form of v
 pub record Formed (s : List ℕ) (at end v : ℕ) : Type 0 where
-  pub ends : end ≡ at + lead (drop at s)
-  pub inside : lead (drop at s) < length (drop at s)
+  pub ends : end ≡ at + continued (drop at s)
+  pub inside : continued (drop at s) < length (drop at s)
   pub spells : v ≡ value (drop at s)
   pub small : v < fieldBound
   pub form : starts (varint (value (drop at s))) (drop at s) ≡ true
 
-pub read-unended : (s : List ℕ) (at lo hi end : ℕ) → end ≡ at + lead (drop at s) → length s ≤ end → refused 20 ≡ fieldAt s at lo hi
+pub read-unended : (s : List ℕ) (at lo hi end : ℕ) → end ≡ at + continued (drop at s) → length s ≤ end → refused 20 ≡ fieldAt s at lo hi
 read-unended s at lo hi end ends h = sym (field-unended (drop at s) at lo hi (omega (arith, length-drop at s)))
 
-module _ (s : List ℕ) (at end : ℕ) (ends : end ≡ at + lead (drop at s)) (h : end < length s) where
-  inside : lead (drop at s) < length (drop at s)
+module _ (s : List ℕ) (at end : ℕ) (ends : end ≡ at + continued (drop at s)) (h : end < length s) where
+  inside : continued (drop at s) < length (drop at s)
   inside = omega (arith, length-drop at s)
 
-  last : getD (drop at s) (lead (drop at s)) 0 ≡ getD s end 0
+  last : getD (drop at s) (continued (drop at s)) 0 ≡ getD s end 0
   last = rw (getD-drop, ends)
 
   module _ (lo hi : ℕ) where

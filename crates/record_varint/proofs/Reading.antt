@@ -10,37 +10,38 @@ use lib.Seq.{drop-drop}
 use borrow.Author.Tests.{lt-ltb, le-leb, lt-leb, ltb-true, leb-true, not-false}
 use Rattle.meaning.specs.Sets.{pick}
 use Rattle.meaning.specs.Record.{varint}
-use Rattle.record_varint.specs.Field.{lead, value, starts, fieldBound, Reading, accepted, refused, fieldOf, fieldAt}
+use Rattle.record_varint.specs.Field.{continued, value, starts, fieldBound, Reading, accepted, refused, fieldOf, fieldAt}
 use Rattle.record_varint.proofs.Groups.{varint-least}
 use Rattle.record_varint.proofs.Starts.{and-left, and-right, starts-self, starts-yes}
-use Rattle.record_varint.proofs.Form.{varint-value, varint-lead}
+use Rattle.record_varint.proofs.Form.{varint-value, varint-continued}
 
 -- ---- the cases of fieldOf
 module _ (l : List ℕ) (at lo hi : ℕ) where
-  pub field-unended : length l ≤ lead l → fieldOf l at lo hi ≡ refused 20
+  pub field-unended : length l ≤ continued l → fieldOf l at lo hi ≡ refused 20
   unfolding fieldOf
-  field-unended h = rw (le-leb (length l) (lead l) h)
+  field-unended h = rw (le-leb (length l) (continued l) h)
 
-  module _ (ended : lead l < length l) where
+  module _ (ended : continued l < length l) where
     pub field-malformed : (starts (varint (value l)) l && ltb (value l) fieldBound) ≡ false → fieldOf l at lo hi ≡ refused 21
     unfolding fieldOf
-    field-malformed e = rw (lt-leb (length l) (lead l) ended, e)
+    field-malformed e = rw (lt-leb (length l) (continued l) ended, e)
 
     module _ (form : starts (varint (value l)) l ≡ true) (small : value l < fieldBound) where
       pub field-outside : (leb lo (value l) && leb (value l) hi) ≡ false → fieldOf l at lo hi ≡ refused 22
       unfolding fieldOf
-      field-outside e = rw (lt-leb (length l) (lead l) ended, form, lt-ltb (value l) fieldBound small, e)
+      field-outside e = rw (lt-leb (length l) (continued l) ended, form, lt-ltb (value l) fieldBound small, e)
 
       pub field-accepted : lo ≤ value l → value l ≤ hi → fieldOf l at lo hi ≡ accepted (value l) (at + length (varint (value l)))
       unfolding fieldOf
-      field-accepted a b = rw (lt-leb (length l) (lead l) ended, form, lt-ltb (value l) fieldBound small, le-leb lo (value l) a, le-leb (value l) hi b)
+      field-accepted a b = rw (lt-leb (length l) (continued l) ended, form, lt-ltb (value l) fieldBound small, le-leb lo (value l) a, le-leb (value l) hi b)
 
 -- ---- reading what was written
 -- the number comes back, with the position after its form
-pub field-written : (v : ℕ) (r : List ℕ) (at lo hi : ℕ) → v < fieldBound → lo ≤ v → v ≤ hi → fieldOf (varint v ++ r) at lo hi ≡ accepted v (at + length (varint v))
+pub field-written : (v : ℕ) (r : List ℕ) (at lo hi : ℕ) → v < fieldBound → lo ≤ v → v ≤ hi
+    → fieldOf (varint v ++ r) at lo hi ≡ accepted v (at + length (varint v))
 field-written v r at lo hi small a b =
     let is : value (varint v ++ r) ≡ v = varint-value v r small in
-    let ended : lead (varint v ++ r) < length (varint v ++ r) = omega (arith, varint-lead v r small, length-append (varint v) r) in
+    let ended : continued (varint v ++ r) < length (varint v ++ r) = omega (arith, varint-continued v r small, length-append (varint v) r) in
     let form : starts (varint (value (varint v ++ r))) (varint v ++ r) ≡ true = rw is (starts-self (varint v) r) in
     field-accepted (varint v ++ r) at lo hi ended form (omega arith) (omega arith) (omega arith) ∙ rw is
 
@@ -61,7 +62,7 @@ pub field-read : (s : List ℕ) (at lo hi v next : ℕ) → fieldAt s at lo hi �
 unfolding fieldOf
 field-read s at lo hi v next e =
     let l = drop at s in
-    let e20 = pick-no (leb (length l) (lead l)) 20 _ v next e in
+    let e20 = pick-no (leb (length l) (continued l)) 20 _ v next e in
     let e21 = pick-no (not (starts (varint (value l)) l && ltb (value l) fieldBound)) 21 _ v next (e20 .1) in
     let e22 = pick-no (not (leb lo (value l) && leb (value l) hi)) 22 _ v next (e21 .1) in
     let good = not-false (starts (varint (value l)) l && ltb (value l) fieldBound) (e21 .0) in

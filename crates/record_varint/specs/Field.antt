@@ -16,9 +16,9 @@ use Rattle.record_varint.specs.declared.Comparison.the-variants.{Same, D
 -- ---- bytes as a field
 
 -- how many bytes with the top bit set stand at the front
-unfoldable pub lead : List ℕ → ℕ
-lead [] = 0
-lead (b ∷ l) = elim (ltb b 128) [ true ↦ 0 | false ↦ suc (lead l) ]
+unfoldable pub continued : List ℕ → ℕ
+continued [] = 0
+continued (b ∷ l) = elim (ltb b 128) [ true ↦ 0 | false ↦ suc (continued l) ]
 
 -- the number that the groups up to the first byte with its top bit clear spell, lowest group first
 unfoldable pub value : List ℕ → ℕ
@@ -52,7 +52,7 @@ refusalOf (refused number) = number
 unfoldable pub fieldOf : List ℕ → ℕ → ℕ → ℕ → Reading
 fieldOf l at lo hi =
     let v = value l in
-    pick (leb (length l) (lead l)) (refused 20)
+    pick (leb (length l) (continued l)) (refused 20)
     (pick (not (starts (varint v) l && ltb v fieldBound)) (refused 21)
     (pick (not (leb lo v && leb v hi)) (refused 22)
     (accepted v (at + length (varint v)))))

@@ -6,7 +6,7 @@ ghost use Prim.Native.Nat.{_+_, _≤_, _<_};
 ghost use lib.Dec.{ltb, eqb};
 ghost use lib.ListN.{length, take, drop, getD};
 ghost use Rattle.meaning.specs.Record.{varint};
-ghost use Rattle.record_varint.specs.Field.{lead, value, fieldAt, sameAt, numberOf, refusalOf, reading, comparison};
+ghost use Rattle.record_varint.specs.Field.{continued, value, fieldAt, sameAt, numberOf, refusalOf, reading, comparison};
 
 // Why a field is refused. `numberOf` gives the specification's number.
 pub enum Fault {
@@ -60,7 +60,7 @@ fn wide(b: u8) -> u64
 
 // The position of the first byte from `at` on whose top bit is clear; where there is none, the end of the bytes.
 fn find_end(s: &[u8], at: usize) -> usize
-    ensures { λ r. ⌜ r ≡ at + lead (drop at (now (s .entry))) ⌝ }
+    ensures { λ r. ⌜ r ≡ at + continued (drop at (now (s .entry))) ⌝ }
 {
     let mut i = at;
     while i < s.len() {
@@ -74,7 +74,7 @@ fn find_end(s: &[u8], at: usize) -> usize
 
 // The number that the groups from `at` to `end` spell.
 fn value_at(s: &[u8], at: usize, end: usize) -> u64
-    requires { ⌜ (end < length (now s)) × (end ≡ at + lead (drop at (now s))) × (end ≤ at + 4) ⌝ }
+    requires { ⌜ (end < length (now s)) × (end ≡ at + continued (drop at (now s))) × (end ≤ at + 4) ⌝ }
     ensures { λ r. ⌜ r ≡ value (drop at (now (s .entry))) ⌝ }
 {
     let mut i = end;
@@ -140,7 +140,7 @@ pub fn field_size(v: u32) -> usize
     5
 }
 
-// Writes a number's form at a position, and gives the position after it. For the crate `record`, which measures before it writes;
+// Writes a number's form at a position, and gives the position after it. For the crate `record_fields`, which measures before it writes;
 // not for end users, so it may require the room.
 pub fn put_field(out: &mut [u8], at: usize, v: u32) -> usize
     requires { ⌜ at + length (varint v) ≤ length (now out) ⌝ }

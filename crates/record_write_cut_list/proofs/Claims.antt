@@ -12,10 +12,11 @@ use Rattle.meaning.specs.Sets.{nth, sum}
 use Rattle.record.specs.declared.SizeHead.{SizeHead}
 use Rattle.demands.specs.Demand3.{cutPlate}
 use Rattle.demands.proofs.Demand3.{counts-are, cut-claim, cut-length, cut-plate-is, losses-are, over-take, size-claim, size-head-is}
-use Rattle.record_write_cut_list.specs.Joint.{AtLimit}
+use Rattle.record_write_cut_list.specs.WriteCutList.{AtLimit}
 
 module _ {k w h : ℕ} {f : List ℕ} (pl : Plate k w h f) (limit : ℕ) (low : 1 ≤ limit) (high : limit ≤ w * h)
-    (out counted lost work : List ℕ) (places : w * h ≤ length out) (a : w * h - 1 ≤ length counted) (b : w * h - 1 ≤ length lost) (space : 8 * (w * h) ≤ length work) where
+    (out counted lost work : List ℕ) (places : w * h ≤ length out) (a : w * h - 1 ≤ length counted) (b : w * h - 1 ≤ length lost)
+    (space : 8 * (w * h) ≤ length work) where
   pub at-limit : AtLimit k w h limit f (take (w * h) (over (cut k w limit f) out)) (over (counts k w f) counted) (over (losses k w f) lost) (darkest f)
   at-limit =
       let bytes = recordOf k w h f in
@@ -29,10 +30,13 @@ module _ {k w h : ℕ} {f : List ℕ} (pl : Plate k w h f) (limit : ℕ) (low : 
         lightest = λ g x y. rw cut-is (c .lightest g x y);
         node-counts = λ x l m. ap (λ (t : List ℕ). nth t (x - 1)) (sym (counts-are pl counted lost work out a b space places)) ∙ s .node-counts x l m;
         grey-lost = λ x l m.
-            ap (λ (t : List ℕ). nth t (x - 1)) (sym (losses-are pl counted lost work out a b space places))
-            ∙ s .grey-lost x l m
-            ∙ ap (λ (t : List ℕ). total t - total (cutPlate w h bytes (suc x) out work)) (cut-plate-is pl x l (omega arith) out work places space)
-            ∙ ap (λ (t : List ℕ). total (cut k w x f) - total t) (cut-plate-is pl (suc x) (omega arith) (omega arith) out work places space);
+            omega (
+              arith,
+              ap (λ (t : List ℕ). nth t (x - 1)) (losses-are pl counted lost work out a b space places),
+              s .grey-lost x l m,
+              ap total (cut-plate-is pl x l (omega arith) out work places space),
+              ap total (cut-plate-is pl (suc x) (omega arith) (omega arith) out work places space),
+            );
         whole =
             omega (
               arith,

@@ -1,3 +1,4 @@
--- What the joint operation leaves, on each way out.
+-- What `write_cut_list` leaves, on each way out.
 pub mod Claims
-pub mod Joining
+pub mod Conditions
+pub mod Outcomes

@@ -1,11 +1,11 @@
 // Demand 3 as code, at one limit: a plate's record, the cut of it and its size list, with the exact bytes passed on.
 ghost use mathlib.Core.Path.{_≡_};
 ghost use lib.ListN.{length};
-ghost use Rattle.record_write_cut_list.specs.Joint.{earlyRefusal, Joined};
+ghost use Rattle.record_write_cut_list.specs.WriteCutList.{earlyRefusal, WrittenCutListed};
 
-// What the operation answers: the length of the record in bytes, the number of nodes, the darkest grey.
+// What `write_cut_list` answers: the length of the record in bytes, the number of nodes, the darkest grey.
 #[repr(C)]
-pub struct Joint {
+pub struct CutListed {
     pub refusal: u32,
     pub length: usize,
     pub nodes: u32,
@@ -13,10 +13,10 @@ pub struct Joint {
 }
 
 // The answer that refuses: the number, and zeros elsewhere.
-fn refused(number: u32) -> Joint
+fn refused(number: u32) -> CutListed
     ensures { λ r. ⌜ r ≡ record { refusal = number; length = 0; nodes = 0; darkest = 0 } ⌝ }
 {
-    Joint {
+    CutListed {
         refusal: number,
         length: 0,
         nodes: 0,
@@ -24,7 +24,7 @@ fn refused(number: u32) -> Joint
     }
 }
 
-// The refusal by the sizes of all but the record: those of opening, then 5 for a table that is too short; else 0.
+// The refusal ahead of any work, by the sizes of all but the record: those of opening, with 5 for a table that is too short ahead of 6; else 0.
 pub fn early_refusal(
     connectivity: u32,
     width: u32,
@@ -36,7 +36,7 @@ pub fn early_refusal(
     losses: usize,
     work: usize,
 ) -> u32
-    ensures { λ r. ⌜ r ≡ earlyRefusal connectivity width height limit plate out counts losses work ⌝ }
+    ensures { λ r. ⌜ r ≡ earlyRefusal connectivity width height limit plate out counts losses work 0 ⌝ }
 {
     let refusal = plate_refusals::clean_refusal(
         connectivity,
@@ -47,16 +47,16 @@ pub fn early_refusal(
         out,
         work,
     );
-    if refusal != 0 {
+    if refusal != 0 && refusal != 6 {
         return refusal;
     }
     if record::tables_short(plate, counts, losses) {
         return 5;
     }
-    0
+    refusal
 }
 
-// Writes the record of a plate, cuts it at a limit, and lists its sizes.
+// Writes the record of a plate, cuts it at a limit, and lists its sizes. A record that needs more bytes than were lent is refused by 5 after the work.
 pub fn write_cut_list(
     image: &[u8],
     width: u32,
@@ -68,8 +68,8 @@ pub fn write_cut_list(
     counts: &mut [u32],
     losses: &mut [u64],
     work: &mut [u32],
-) -> Joint
-    ensures { λ r. ⌜ Joined connectivity width height limit (now (image .entry)) (now (bytes .entry)) (now (bytes .exit)) (now (out .entry)) (now (out .exit)) (now (counts .entry)) (now (counts .exit)) (now (losses .entry)) (now (losses .exit)) (now (work .entry)) (now (work .exit)) r ⌝ }
+) -> CutListed
+    ensures { λ r. ⌜ WrittenCutListed connectivity width height limit (now (image .entry)) (now (bytes .entry)) (now (bytes .exit)) (now (out .entry)) (now (out .exit)) (now (counts .entry)) (now (counts .exit)) (now (losses .entry)) (now (losses .exit)) (now (work .entry)) (now (work .exit)) r ⌝ }
 {
     let early = early_refusal(
         connectivity,
@@ -92,7 +92,7 @@ pub fn write_cut_list(
     let length = written.length;
     record::cut_record(&bytes[..length], limit, out, work);
     let sizes = record::size_list(&bytes[..length], counts, losses, work);
-    Joint {
+    CutListed {
         refusal: 0,
         length: length,
         nodes: sizes.nodes,

@@ -20,7 +20,7 @@ fn print_list(list: [plate_entries::Node; 6]) {
 }
 
 // Prints what was answered, what the list holds, and the entry that was read.
-fn show(answer: plate_filter::NodeList, list: [plate_entries::Node; 6], one: plate_entries::Node) {
+fn show(answer: plate_tree::NodeList, list: [plate_entries::Node; 6], one: plate_entries::Node) {
     print_number(answer.refusal as u64);
     print_number(answer.count as u64);
     print_list(list);

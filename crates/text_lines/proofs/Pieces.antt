@@ -7,7 +7,7 @@ use native.Mathlib.Omega.{arith}
 use native.Mathlib.Numerals.{add-one}
 use lib.ListN.{getD, length, length-append, length-set, set, take}
 use lib.Seq.{length-sets, length-take-le, sets, take-all, take-suc}
-use Rattle.text_lines.specs.Lines.{Put, field, further, line}
+use Rattle.text_lines.specs.Lines.{PutText, field, further, line}
 
 -- two runs of stores are one
 pub sets-sets : (l : List ℕ) (i : ℕ) (a b : List ℕ) → sets (sets l i a) (i + length a) b ≡ sets l i (a ++ b)
@@ -15,20 +15,21 @@ sets-sets l i [] b = ap (λ (k : ℕ). sets l k b) (add-zero i)
 sets-sets l i (x ∷ a) b =
     ap (λ (k : ℕ). sets (sets (set l i x) (suc i) a) k b) (add-suc i (length a) ∙ sym (suc-add i (length a))) ∙ sets-sets (set l i x) (suc i) a b
 
-pub put-length : {text text′ bytes : List ℕ} {at next : ℕ} → Put text at bytes text′ next → length text′ ≡ length text
+pub put-length : {text text′ bytes : List ℕ} {at next : ℕ} → PutText text at bytes text′ next → length text′ ≡ length text
 put-length {text} {bytes = bytes} {at = at} p = ap length (p .stored) ∙ length-sets text at bytes
 
 -- one piece after another is one piece
-pub put-put : {text text′ text″ a b : List ℕ} {at mid next : ℕ} → Put text at a text′ mid → Put text′ mid b text″ next → Put text at (a ++ b) text″ next
+pub put-put : {text text′ text″ a b : List ℕ} {at mid next : ℕ} → PutText text at a text′ mid → PutText text′ mid b text″ next
+    → PutText text at (a ++ b) text″ next
 put-put {text} {a = a} {b = b} {at = at} p q = record {
-  behind = omega (arith, p .behind, q .behind, length-append a b);
+  after = omega (arith, p .after, q .after, length-append a b);
   room = omega (arith, q .room, put-length p);
-  stored = q .stored ∙ rw (p .stored, p .behind) (sets-sets text at a b);
+  stored = q .stored ∙ rw (p .stored, p .after) (sets-sets text at a b);
 }
 
 -- nothing is put
-pub put-nothing : (text : List ℕ) (at : ℕ) → at ≤ length text → Put text at [] text at
-put-nothing text at l = record { behind = sym (add-zero at); room = l; stored = refl }
+pub put-nothing : (text : List ℕ) (at : ℕ) → at ≤ length text → PutText text at [] text at
+put-nothing text at l = record { after = sym (add-zero at); room = l; stored = refl }
 
 -- ---- a word, byte by byte
 
@@ -51,8 +52,8 @@ module _ {text text′ word : List ℕ} {at i : ℕ} (p : Putting text at word t
         ∙ sets-sets text at (take i word) (getD word i 0 ∷ []));
   }
 
-  pub putting-done : length word ≤ i → Put text at word text′ (at + i)
-  putting-done l = record { behind = omega (arith, p .within); room = omega (arith, p .room, p .within); stored = p .stored ∙ rw (take-all i word l) }
+  pub putting-done : length word ≤ i → PutText text at word text′ (at + i)
+  putting-done l = record { after = omega (arith, p .within); room = omega (arith, p .room, p .within); stored = p .stored ∙ rw (take-all i word l) }
 
 -- ---- a line, field by field
 
@@ -63,19 +64,19 @@ further-more (u ∷ vs) v = append-assoc (field u) (further vs) (field v) ∙ ap
 
 -- the first field of a line and some numbers after it are put
 pub record Begun (text : List ℕ) (at : ℕ) (first numbers text′ : List ℕ) (next : ℕ) : Type 0 where
-  pub put : Put text at (first ++ further numbers) text′ next
+  pub put : PutText text at (first ++ further numbers) text′ next
 
-pub begin : {text first text′ : List ℕ} {at next : ℕ} → Put text at first text′ next → Begun text at first [] text′ next
+pub begin : {text first text′ : List ℕ} {at next : ℕ} → PutText text at first text′ next → Begun text at first [] text′ next
 unfolding further
 begin {first = first} p = record { put = rw (append-nil first) p }
 
 module _ {text first numbers text′ text″ : List ℕ} {at mid next : ℕ} (b : Begun text at first numbers text′ mid) where
-  pub and-field : (v : ℕ) → Put text′ mid (field v) text″ next → Begun text at first (numbers ++ (v ∷ [])) text″ next
+  pub and-field : (v : ℕ) → PutText text′ mid (field v) text″ next → Begun text at first (numbers ++ (v ∷ [])) text″ next
   and-field v p =
       let e : (first ++ further numbers) ++ field v ≡ first ++ further (numbers ++ (v ∷ [])) =
       append-assoc first (further numbers) (field v) ∙ ap (λ (l : List ℕ). first ++ l) (further-more numbers v) in
       record { put = rw e at (put-put (b .put) p) }
 
-  pub end-line : Put text′ mid (10 ∷ []) text″ next → Put text at (line first numbers) text″ next
+  pub end-line : PutText text′ mid (10 ∷ []) text″ next → PutText text at (line first numbers) text″ next
   unfolding line
   end-line p = put-put (b .put) p

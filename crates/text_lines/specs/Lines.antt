@@ -36,7 +36,7 @@ unfolding further
 line first numbers = (first ++ further numbers) ++ (10 ∷ [])
 
 -- bytes were put into a text from the place `at` on: what stands there now, and the place after them, which is no further than the end
-pub record Put (text : List ℕ) (at : ℕ) (bytes text′ : List ℕ) (next : ℕ) : Type 0 where
-  pub behind : next ≡ at + length bytes
+pub record PutText (text : List ℕ) (at : ℕ) (bytes text′ : List ℕ) (next : ℕ) : Type 0 where
+  pub after : next ≡ at + length bytes
   pub room : next ≤ length text
   pub stored : text′ ≡ sets text at bytes

@@ -12,16 +12,16 @@ use Rattle.pgm.specs.File.{rasterOf, readPgm}
 use Rattle.pgm.specs.declared.PgmRead.{PgmRead}
 use Rattle.pgm.proofs.Sizes.{Sized}
 use Rattle.pgm.proofs.Reading.{file-sized}
-use Rattle.text_lines.specs.Lines.{Put}
+use Rattle.text_lines.specs.Lines.{PutText}
 use Rattle.text_sizelist.specs.Text.{answerText, heldPixels, inputBytes, plateText, refusedText, sizeText}
 use Rattle.text_sizelist.specs.Pieces.{Made}
 
 -- a text that was put from its first place on
-pub made : {text text′ bytes answer : List ℕ} {r : ℕ} → Put text 0 bytes text′ r → bytes ≡ answer → Made answer text text′ r
+pub made : {text text′ bytes answer : List ℕ} {r : ℕ} → PutText text 0 bytes text′ r → bytes ≡ answer → Made answer text text′ r
 made {text} {bytes = bytes} p e = record {
-  long = omega (arith, p .behind, ap length e);
+  long = omega (arith, p .after, ap length e);
   output =
-      p .stored ∙ sets-eq bytes text 0 (omega (arith, p .behind, p .room)) ∙ ap (λ (k : ℕ). bytes ++ drop k text) (zero-add (length bytes))
+      p .stored ∙ sets-eq bytes text 0 (omega (arith, p .after, p .room)) ∙ ap (λ (k : ℕ). bytes ++ drop k text) (zero-add (length bytes))
       ∙ ap (λ (b : List ℕ). over b text) e;
 }
 
@@ -61,7 +61,8 @@ module _ (file out out′ : List ℕ) (r : PgmRead) (e : r ≡ readPgm file (len
     pub raster-is : take (r .width * r .height) out′ ≡ rasterOf file
     raster-is =
         let z′ : readPgm file (length out) .refusal ≡ 0 = rw e at z in
-        rw (o, eq-eqb (readPgm file (length out) .refusal) 0 z′) (take-at (rasterOf file) (drop (length (rasterOf file)) out) (r .width * r .height) (read-is .long))
+        rw (o, eq-eqb (readPgm file (length out) .refusal) 0 z′)
+        (take-at (rasterOf file) (drop (length (rasterOf file)) out) (r .width * r .height) (read-is .long))
 
 -- ---- for the program
 

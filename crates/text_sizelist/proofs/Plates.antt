@@ -55,6 +55,10 @@ sizes-over n counted lost out out′ a b =
 
 -- ---- a plate that the program holds
 
+-- the text of an answer, with the lines of its tables
+abbrev pub answerText : SizeHead → List ℕ → List ℕ
+answerText s sizes = (headLine (s .width) (s .height) (s .connectivity) (s .nodes) ++ sizes) ++ restLine (s .darkest)
+
 module _ {w h : ℕ} {f : List ℕ} (pl : Plate sides w h f) where
   abbrev xs : List ℕ
   xs = nodesOf sides w f
@@ -101,7 +105,8 @@ module _ {w h : ℕ} {f : List ℕ} (pl : Plate sides w h f) where
 
   -- ---- its record, as writing returns it
 
-  module _ {out out′ work work′ : List ℕ} {r : Written} (a : length bytes ≤ length out) (b : 8 * (w * h) ≤ length work) (x : WrittenRecord sides w h f out out′ work work′ r) where
+  module _ {out out′ work work′ : List ℕ} {r : Written} (a : length bytes ≤ length out) (b : 8 * (w * h) ≤ length work)
+      (x : WrittenRecord sides w h f out out′ work work′ r) where
     not-refused : writeRefusal sides w h f out work ≡ 0
     unfolding writeRefusal treeRefusal
     not-refused =
@@ -145,9 +150,7 @@ module _ {w h : ℕ} {f : List ℕ} (pl : Plate sides w h f) where
           rw (listed .count-table, listed .loss-table, none)
           (sizes-over (length f - 1) (counts sides w f) (losses sides w f) counted lost counts-length losses-length)
 
-      pub listed-text : (headLine (r .width) (r .height) (r .connectivity) (r .nodes) ++ gather (length f - 1) (sizeLine counted′ lost′)) ++ restLine (r .darkest)
-          ≡ plateText w h f
+      pub listed-text : answerText r (gather (length f - 1) (sizeLine counted′ lost′)) ≡ plateText w h f
       listed-text =
-          ap (λ (s : SizeHead). (headLine (s .width) (s .height) (s .connectivity) (s .nodes) ++ gather (length f - 1) (sizeLine counted′ lost′)) ++ restLine (s .darkest))
-          head-is
+          ap (λ (s : SizeHead). answerText s (gather (length f - 1) (sizeLine counted′ lost′))) head-is
           ∙ ap (λ (l : List ℕ). (headLine w h sides (length xs) ++ l) ++ restLine (darkest f)) sizes-are ∙ sym plate-text-is

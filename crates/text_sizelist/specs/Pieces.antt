@@ -13,7 +13,7 @@ abbrev pub textPlaces : ℕ
 textPlaces = 65536
 
 -- a plate that the program holds, and a text that has the places
-pub record Held (w h : ℕ) (f text : List ℕ) : Type 0 where
+pub record HeldPlate (w h : ℕ) (f text : List ℕ) : Type 0 where
   pub sizes : gridFits w h ≡ true
   pub long : length f ≡ w * h
   pub small : length f ≤ heldPixels

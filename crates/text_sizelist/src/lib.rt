@@ -2,14 +2,14 @@
 ghost use Prim.Native.Nat.{_+_, _*_, _≤_, _<_};
 ghost use lib.ListN.{length};
 ghost use Rattle.meaning.specs.Sets.{gather};
-ghost use Rattle.text_lines.specs.Lines.{Put};
+ghost use Rattle.text_lines.specs.Lines.{PutText};
 ghost use Rattle.text_sizelist.specs.Text.{refusedText, headLine, sizeLine, restLine, plateText, sizeText};
-ghost use Rattle.text_sizelist.specs.Pieces.{Held, Made};
+ghost use Rattle.text_sizelist.specs.Pieces.{HeldPlate, Made};
 
 // Puts the text of a refusal.
 fn put_refused(text: &mut [u8], number: u32) -> usize
     requires { ⌜ 29 ≤ length (now text) ⌝ }
-    ensures { λ r. ⌜ Put (now (text .entry)) 0 (refusedText number) (now (text .exit)) r ⌝ }
+    ensures { λ r. ⌜ PutText (now (text .entry)) 0 (refusedText number) (now (text .exit)) r ⌝ }
 {
     let field = text_lines::put_word(text, 0, b"refused");
     let end = text_lines::put_field(text, field, number as u64);
@@ -19,7 +19,7 @@ fn put_refused(text: &mut [u8], number: u32) -> usize
 // Puts the first line: the sizes, the connectivity and the number of nodes.
 fn put_head(text: &mut [u8], width: u32, height: u32, connectivity: u32, nodes: u32) -> usize
     requires { ⌜ 89 ≤ length (now text) ⌝ }
-    ensures { λ r. ⌜ Put (now (text .entry)) 0 (headLine width height connectivity nodes) (now (text .exit)) r ⌝ }
+    ensures { λ r. ⌜ PutText (now (text .entry)) 0 (headLine width height connectivity nodes) (now (text .exit)) r ⌝ }
     ensures { λ r. ⌜ r ≤ 89 ⌝ }
 {
     let first = text_lines::put_word(text, 0, b"size");
@@ -34,7 +34,7 @@ fn put_head(text: &mut [u8], width: u32, height: u32, connectivity: u32, nodes: 
 fn put_size(text: &mut [u8], at: usize, counts: &[u32], losses: &[u64], i: usize) -> usize
     requires { ⌜ at + 63 ≤ length (now text) ⌝ }
     requires { ⌜ (i < length (now counts)) × (i < length (now losses)) ⌝ }
-    ensures { λ r. ⌜ Put (now (text .entry)) at (sizeLine (now (counts .entry)) (now (losses .entry)) i) (now (text .exit)) r ⌝ }
+    ensures { λ r. ⌜ PutText (now (text .entry)) at (sizeLine (now (counts .entry)) (now (losses .entry)) i) (now (text .exit)) r ⌝ }
     ensures { λ r. ⌜ r ≤ at + 63 ⌝ }
 {
     let count = counts[i];
@@ -51,7 +51,7 @@ fn put_size(text: &mut [u8], at: usize, counts: &[u32], losses: &[u64], i: usize
 fn put_sizes(text: &mut [u8], at: usize, counts: &[u32], losses: &[u64], places: usize) -> usize
     requires { ⌜ at + 63 * places ≤ length (now text) ⌝ }
     requires { ⌜ (places ≤ length (now counts)) × (places ≤ length (now losses)) ⌝ }
-    ensures { λ r. ⌜ Put (now (text .entry)) at (gather places (sizeLine (now (counts .entry)) (now (losses .entry)))) (now (text .exit)) r ⌝ }
+    ensures { λ r. ⌜ PutText (now (text .entry)) at (gather places (sizeLine (now (counts .entry)) (now (losses .entry)))) (now (text .exit)) r ⌝ }
     ensures { λ r. ⌜ r ≤ at + 63 * places ⌝ }
 {
     let mut next = at;
@@ -67,7 +67,7 @@ fn put_sizes(text: &mut [u8], at: usize, counts: &[u32], losses: &[u64], places:
 fn put_rest(text: &mut [u8], at: usize, darkest: u32) -> usize
     requires { ⌜ at + 47 ≤ length (now text) ⌝ }
     requires { ⌜ darkest < 256 ⌝ }
-    ensures { λ r. ⌜ Put (now (text .entry)) at (restLine darkest) (now (text .exit)) r ⌝ }
+    ensures { λ r. ⌜ PutText (now (text .entry)) at (restLine darkest) (now (text .exit)) r ⌝ }
 {
     let first = text_lines::put_word(text, at, b"rest");
     let second = text_lines::put_field(text, first, darkest as u64);
@@ -79,8 +79,8 @@ fn put_rest(text: &mut [u8], at: usize, darkest: u32) -> usize
 // Puts the text of a plate: its record is written, and the record's sizes are listed. A record of 1,024 pixels has at most 4,099 fields, each of
 // at most five bytes.
 fn plate_text(image: &[u8], width: u32, height: u32, text: &mut [u8]) -> usize
-    requires { ⌜ Held width height (now image) (now text) ⌝ }
-    ensures { λ r. ⌜ Put (now (text .entry)) 0 (plateText width height (now (image .entry))) (now (text .exit)) r ⌝ }
+    requires { ⌜ HeldPlate width height (now image) (now text) ⌝ }
+    ensures { λ r. ⌜ PutText (now (text .entry)) 0 (plateText width height (now (image .entry))) (now (text .exit)) r ⌝ }
 {
     let mut bytes = [0u8; 20495];
     let mut work = [0u32; 8192];

@@ -2,7 +2,7 @@
 use mathlib.Core.Path.{_≡_, ap, _∙_}
 use mathlib.Core.List.{List}
 use Prim.Native.Nat.{ℕ, suc, _-_, _≤_, _<_}
-use native.Mathlib.Nat.{mul-comm, le-antisymm}
+use native.Mathlib.Nat.{le-antisymm}
 use native.Mathlib.Omega.{arith}
 use lib.Dec.{T}
 use lib.ListN.{length, length-map}
@@ -18,7 +18,7 @@ use Rattle.theory_connectivity.proofs.Sizes.{Sizes, grid-sizes}
 use Rattle.theory_lists.proofs.Lists.{getD-map, table-same, elem-nth, getD-table, length-table, place-is}
 use Rattle.theory_lists.proofs.Sets.{lowest-is}
 use Rattle.theory_lists.proofs.Sums.{sum-cong}
-use Rattle.theory_connectivity.proofs.Touch.{list-grid}
+use Rattle.theory_connectivity.proofs.Touch.{fits-grid}
 use Rattle.theory_opening.proofs.Area.{area-attribute}
 use Rattle.theory_opening.proofs.Attribute.{attribute-criterion}
 use Rattle.theory_opening.proofs.Opening.{opened-below}
@@ -48,7 +48,7 @@ module _ {k w h : ℕ} {f : List ℕ} (plate : Plate k w h f) where
 
   -- both grids are connected, so some set always qualifies
   pub plate-grid : Grid (length f) (touch k w)
-  plate-grid = list-grid k w h f (plate-sizes .wide .least) (plate .long ∙ mul-comm w h)
+  plate-grid = fits-grid k w h (length f) (plate .sizes) (plate .long)
 
   -- the list of the anchors numbers the nodes
   pub plate-nodes : Nodes (length f) (touch k w) (grey f) (nodesOf k w f)
@@ -144,7 +144,10 @@ module _ {k w h : ℕ} {f : List ℕ} (plate : Plate k w h f) where
 module _ {k w h : ℕ} {f : List ℕ} (plate : Plate k w h f) where
   pub closed-length : (limit : ℕ) → length (closed k w limit f) ≡ length f
   unfolding closed negative
-  closed-length limit = length-map (opened k w limit (negative f)) (λ (g : ℕ). greatestGrey - g) ∙ opened-length (negative-plate plate) limit ∙ negative-length plate
+  closed-length limit =
+      length-map (opened k w limit (negative f)) (λ (g : ℕ). greatestGrey - g)
+      ∙ opened-length (negative-plate plate) limit
+      ∙ negative-length plate
 
   pub closed-grey : (limit p : ℕ) → p < length f → grey (closed k w limit f) p ≡ greatestGrey - grey (opened k w limit (negative f)) p
   unfolding closed negative

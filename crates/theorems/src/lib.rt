@@ -1,1 +1,1 @@
-// The theorems stand in proofs/Theorems.antt; this crate has no functions.
+// The theorems stand in specs/Theorems.antt, with their proofs in proofs/; this crate has no functions.

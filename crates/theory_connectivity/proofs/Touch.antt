@@ -1,17 +1,16 @@
 -- A plate of h rows of w pixels is a grid, by either way to touch: touching is symmetric, and a path leads from each pixel to each.
-use mathlib.Core.Path.{_≡_, subst}
+use mathlib.Core.Path.{_≡_, subst, _∙_}
 use mathlib.Core.Bool.{Bool, true, false}
-use mathlib.Core.List.{List}
 use Prim.Native.Nat.{ℕ, zero, suc, _+_, _*_, _/_, _%_, _<_, max}
-use native.Mathlib.Nat.{mod-lt, div-add-mod', div-lt-iff-lt-mul}
+use native.Mathlib.Nat.{mod-lt, div-add-mod', div-lt-iff-lt-mul, mul-comm}
 use native.Mathlib.Omega.{arith}
 use lib.Arith.{digits-lt, digits-div, digits-mod}
-use lib.ListN.{length}
 use lib.Dec.{T, eqb}
 use Rattle.meaning.specs.Paths.{Grid, Joined, Symmetric, here, step}
-use Rattle.meaning.specs.Plate.{apart, touch}
+use Rattle.meaning.specs.Plate.{apart, gridFits, touch}
 use Rattle.meaning.specs.Sets.{pick}
 use Rattle.theory_connectivity.proofs.Paths.{joined-sym, joined-trans}
+use Rattle.theory_connectivity.proofs.Sizes.{grid-sizes}
 
 apart-comm : (a b : ℕ) → apart a b ≡ apart b a
 apart-comm a b = omega arith
@@ -64,6 +63,6 @@ module _ (k w h : ℕ) where
     whole = λ p q lp lq. joined-trans (joined-sym (touch-sym k w) (reach-pixel l p lp)) (reach-pixel l q lq);
   }
 
--- a list of h rows of w greys
-pub list-grid : (k w h : ℕ) (f : List ℕ) → 0 < w → length f ≡ h * w → Grid (length f) (touch k w)
-list-grid k w h f l e = rw e (touch-grid k w h l)
+-- sizes that fit
+pub fits-grid : (k w h n : ℕ) → gridFits w h ≡ true → n ≡ w * h → Grid n (touch k w)
+fits-grid k w h n fits e = rw (e ∙ mul-comm w h) (touch-grid k w h (grid-sizes w h fits .wide .least))

@@ -82,6 +82,11 @@ elem-rising (suc n) s = below-suc (λ (q : ℕ). T (s q) → T (elem (rising (su
     (λ q l t. elem-left (rising n s) (consIf (s n) n []) q (elem-rising n s q l t))
     (λ t. elem-right (rising n s) (consIf (s n) n []) n (one (s n) n t))
 
+pub gather-cong : (m : ℕ) (g g′ : ℕ → List ℕ) → ((t : ℕ) → g t ≡ g′ t) → gather m g ≡ gather m g′
+unfolding gather
+gather-cong zero g g′ e = refl
+gather-cong (suc m) g g′ e = rw (gather-cong m g g′ e, e m)
+
 pub elem-gather : (m : ℕ) (g : ℕ → List ℕ) (q t : ℕ) → t < m → T (elem (g t) q) → T (elem (gather m g) q)
 unfolding gather
 elem-gather zero g q = λ t l. absurd (not-suc-le-zero l)

@@ -9,7 +9,7 @@ use native.Mathlib.Omega.{arith}
 use lib.Dec.{T}
 use Rattle.meaning.specs.Sets.{Within, area, bit, greatest, lowest, most, pick, some}
 use Rattle.theory_lists.specs.Members.{Lowest, Top}
-use Rattle.theory_lists.proofs.Tests.{choice, either-cases, tests}
+use Rattle.theory_lists.proofs.Tests.{bit-no, bit-true, bit-yes, choice, either-cases, tests}
 
 -- ---- numbers below suc n: those below n, and n
 
@@ -43,20 +43,8 @@ bit-le : (a : Bool) → bit a ≤ 1
 bit-le true = omega arith
 bit-le false = omega arith
 
-bit-one : (a : Bool) → T a → bit a ≡ 1
-bit-one true t = refl
-bit-one false t = absurd t
-
-bit-zero : (a : Bool) → (T a → ⊥) → bit a ≡ 0
-bit-zero true f = absurd (f tt)
-bit-zero false f = refl
-
-bit-pos : (a : Bool) → 1 ≤ bit a → T a
-bit-pos true h = tt
-bit-pos false h = not-suc-le-zero h
-
 bit-mono : (a b : Bool) → (T a → T b) → bit a ≤ bit b
-bit-mono true b f = omega (arith, bit-one b (f tt))
+bit-mono true b f = omega (arith, bit-yes b (f tt))
 bit-mono false b f = omega arith
 
 -- an inclusion below suc n is one below n
@@ -80,12 +68,12 @@ area-full zero s h = λ q l. absurd (not-suc-le-zero l)
 area-full (suc n) s h =
     below-suc (λ (q : ℕ). T (s q))
     (area-full n s (omega (arith, bit-le (s n))))
-    (bit-pos (s n) (omega (arith, area-le n s)))
+    (bit-true (s n) (omega (arith, area-le n s)))
 
 pub area-all : (n : ℕ) (s : ℕ → Bool) → ((q : ℕ) → q < n → T (s q)) → area n s ≡ n
 unfolding area
 area-all zero s f = refl
-area-all (suc n) s f = omega (arith, area-all n s (λ q h. f q (omega arith)), bit-one (s n) (f n (omega arith)))
+area-all (suc n) s f = omega (arith, area-all n s (λ q h. f q (omega arith)), bit-yes (s n) (f n (omega arith)))
 
 -- a set that lies within another is smaller, or the two are the same
 pub area-grows : (n : ℕ) (s s′ : ℕ → Bool) → Within n s s′ → (area n s < area n s′) ⊎ Within n s′ s
@@ -97,7 +85,7 @@ area-grows (suc n) s s′ i = go (area-grows n s s′ (shorten s s′ i)) (choic
         → (bit (s n) + area n s < bit (s′ n) + area n s′) ⊎ Within (suc n) s′ s
     go (inl l) a b = inl (omega (arith, bit-mono (s n) (s′ n) (i n (omega arith))))
     go (inr w) (inl a) b = inr (below-suc (λ (q : ℕ). T (s′ q) → T (s q)) w (λ t. a))
-    go (inr w) (inr a) (inl b) = inl (omega (arith, bit-zero (s n) a, bit-one (s′ n) b, area-mono n s s′ (shorten s s′ i)))
+    go (inr w) (inr a) (inl b) = inl (omega (arith, bit-no (s n) a, bit-yes (s′ n) b, area-mono n s s′ (shorten s s′ i)))
     go (inr w) (inr a) (inr b) = inr (below-suc (λ (q : ℕ). T (s′ q) → T (s q)) w (λ t. absurd (b t)))
 
 -- ---- the lightest member

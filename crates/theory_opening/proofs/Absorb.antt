@@ -1,5 +1,5 @@
 -- One opening after another: opening by a criterion and then by a second is opening by both at once (absorption).
-use mathlib.Core.Path.{_≡_, sym, _∙_}
+use mathlib.Core.Path.{_≡_, sym}
 use mathlib.Core.Logic.{_↔_}
 use mathlib.Core.Bool.{Bool, _&&_}
 use Prim.Native.Nat.{ℕ, _≤_, _<_}
@@ -92,10 +92,3 @@ module _ {n : ℕ} {near : ℕ → ℕ → Bool} {keep keep′ : (ℕ → Bool) 
 
     pub opened-twice : (p : ℕ) → p < n → openedAt n near keep′ (openedAt n near keep f) p ≡ openedAt n near (both-keep keep keep′) f p
     opened-twice p l = same-below (twice p) (joint p) (λ t. (twice-joint t p l, joint-twice t p l))
-
--- opening twice by one criterion is opening once
-pub opened-idempotent : {n : ℕ} {near : ℕ → ℕ → Bool} {keep : (ℕ → Bool) → Bool} → Grid n near → Criterion n keep → (f : ℕ → ℕ) (p : ℕ) → p < n
-    → openedAt n near keep (openedAt n near keep f) p ≡ openedAt n near keep f p
-opened-idempotent {keep = keep} grid crit f p l =
-    opened-twice grid crit crit f p l
-    ∙ opened-alike grid (and-criterion crit crit) crit (λ s. (λ t. search tests, λ t. search tests)) f p l

@@ -4,7 +4,7 @@ use mathlib.Core.Path.{_≡_, sym, _∙_}
 use mathlib.Core.Logic.{inl, inr}
 use mathlib.Core.Bool.{Bool, not, _&&_}
 use Prim.Native.Nat.{ℕ, _≤_, _<_}
-use native.Mathlib.Nat.{le-refl, le-antisymm}
+use native.Mathlib.Nat.{le-refl}
 use native.Mathlib.Decide.{decLe}
 use native.Mathlib.Omega.{arith}
 use lib.Dec.{T, T-not, not-T, leb, leb→le, eqb, eqb→eq, eqb-refl}
@@ -18,7 +18,7 @@ use Rattle.theory_connectivity.proofs.Component.{component-complete, component-
 use Rattle.theory_connectivity.proofs.Paths.{along, end-below, end-ok, joined-mono, joined-trans}
 use Rattle.theory_lists.proofs.Sets.{some-elim, some-intro, top}
 use Rattle.theory_lists.proofs.Tests.{choice, orders, tests}
-use Rattle.theory_opening.proofs.Opening.{joined-patch, opened-below, opened-kept, opened-least, patch-joined, patch-mono, patch-same}
+use Rattle.theory_opening.proofs.Opening.{joined-patch, opened-kept, opened-least, patch-joined, patch-mono, patch-same}
 
 -- a grey equal to that of p passes the test of p's flat zone
 alike-eq : (g : ℕ → ℕ) (p q : ℕ) → g q ≡ g p → T (alike g p q)
@@ -114,12 +114,6 @@ module _ {n : ℕ} {near : ℕ → ℕ → Bool} {keep : (ℕ → Bool) → Bool
       (crit .increasing (own h p l) (has (patch n near f (h p) p))
       (patch-mono grid h f (h p) (h p) p (λ q i t. omega (orders, w q i)))
       (own-kept h p l m))
-
-  -- the opening is the only picture with the three properties
-  pub opened-unique : (f g : ℕ → ℕ) → Below n g f → MaximaKept n near keep g
-      → ((h : ℕ → ℕ) → Below n h f → MaximaKept n near keep h → Below n h g) → (p : ℕ) → p < n → g p ≡ openedAt n near keep f p
-  opened-unique f g a b c p l =
-      le-antisymm (opened-lightest f g a b p l) (c (openedAt n near keep f) (λ q i. opened-below grid crit f q) (maxima-kept f) p l)
 
 -- ---- only the greys of the grid's pixels count
 

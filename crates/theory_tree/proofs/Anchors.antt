@@ -74,12 +74,6 @@ module _ {n : ℕ} {near : ℕ → ℕ → Bool} (grid : Grid n near) (f : ℕ �
   pub anchor-idempotent : (p : ℕ) → p < n → anchor n near f (anchor n near f p) ≡ anchor n near f p
   anchor-idempotent p l = sym (anchor-same p (anchor n near f p) (anchor-joined p l) (anchor-level p l))
 
-  -- and the other way round: one anchor, one node
-  pub anchor-meets : (p q : ℕ) → p < n → q < n → anchor n near f p ≡ anchor n near f q → f p ≡ f q → Joined n near (lighter f (f p)) p q
-  anchor-meets p q lp lq e u =
-      let j : Joined n near (lighter f (f p)) q (anchor n near f q) = rw u (anchor-joined q lq) in
-      joined-trans (anchor-joined p lp) (joined-sym (grid .back) (rw e j))
-
   -- every anchor is in the list
   pub anchors-all : (m : ℕ) → ((q : ℕ) → q < n → f q ≤ m) → (p : ℕ) → p < n → T (elem (anchors m n near f) (anchor n near f p))
   unfolding anchors

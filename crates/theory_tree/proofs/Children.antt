@@ -104,7 +104,8 @@ module _ {n : ℕ} {near : ℕ → ℕ → Bool} (grid : Grid n near) {f : ℕ �
   chain-count p l i (suc k) m = go (holds n near f xs (suc k) p) refl (chain-count p l i k (omega arith))
     where
       go : (b : Bool) → holds n near f xs (suc k) p ≡ b
-          → sum k (λ (c : ℕ). bit (eqb (parent n near f xs (suc c)) i && holds n near f xs (suc c) p)) + bit (eqb (greatest (λ (j : ℕ). holds n near f xs j p) k) i)
+          → sum k (λ (c : ℕ). bit (eqb (parent n near f xs (suc c)) i && holds n near f xs (suc c) p))
+          + bit (eqb (greatest (λ (j : ℕ). holds n near f xs j p) k) i)
           ≡ bit (leb i k && holds n near f xs i p)
           → bit (eqb (parent n near f xs (suc k)) i && b) + sum k (λ (c : ℕ). bit (eqb (parent n near f xs (suc c)) i && holds n near f xs (suc c) p))
           + bit (eqb (pick b (suc k) (greatest (λ (j : ℕ). holds n near f xs j p) k)) i)
@@ -131,7 +132,8 @@ module _ {n : ℕ} {near : ℕ → ℕ → Bool} (grid : Grid n near) {f : ℕ �
           )
 
   pub children-count : (p i k : ℕ) → p < n → i < length xs → length xs ≡ suc k
-      → bit (eqb (own n near f xs p) i) + sum k (λ (c : ℕ). bit (eqb (parent n near f xs (suc c)) i && holds n near f xs (suc c) p)) ≡ bit (holds n near f xs i p)
+      → bit (eqb (own n near f xs p) i) + sum k (λ (c : ℕ). bit (eqb (parent n near f xs (suc c)) i && holds n near f xs (suc c) p))
+      ≡ bit (holds n near f xs i p)
   children-count p i k l m e =
       let u : T (leb i k) = omega orders in
       omega (
@@ -143,7 +145,9 @@ module _ {n : ℕ} {near : ℕ → ℕ → Bool} (grid : Grid n near) {f : ℕ �
 
   -- the pixels whose own node is i, and the areas of i's children
   pub children-area : (i k : ℕ) → i < length xs → length xs ≡ suc k
-      → areaOf n near f xs i ≡ area n (λ (p : ℕ). eqb (own n near f xs p) i) + sum k (λ (c : ℕ). pick (eqb (parent n near f xs (suc c)) i) (areaOf n near f xs (suc c)) 0)
+      → areaOf n near f xs i
+      ≡ area n (λ (p : ℕ). eqb (own n near f xs p) i)
+      + sum k (λ (c : ℕ). pick (eqb (parent n near f xs (suc c)) i) (areaOf n near f xs (suc c)) 0)
   unfolding areaOf
   children-area i k m e =
       let mine : ℕ → ℕ = λ (p : ℕ). bit (eqb (own n near f xs p) i) in

@@ -1,24 +1,21 @@
 -- The opening by climbing the component tree: from a pixel's node up through the parents to the first node that is kept.
 -- Three equations say so: at a kept node the opening is the node's level (climb-kept); at a node that is not kept it is the parent's
--- (climb-parent); and pixels of one grey in one node have one opening (climb-same). The root is kept (root-kept).
+-- (climb-parent); and pixels of one grey in one node have one opening (climb-same).
 use mathlib.Core.Path.{_≡_}
-use mathlib.Core.Logic.{_⊎_, inl, inr}
-use mathlib.Core.Bool.{Bool, _&&_}
+use mathlib.Core.Bool.{Bool}
 use Prim.Native.Nat.{ℕ, _≤_, _<_}
 use native.Mathlib.Nat.{le-refl, le-antisymm}
 use native.Mathlib.Decide.{decLe}
 use native.Mathlib.Omega.{arith}
-use lib.Dec.{T, ltb, ltb→lt, lt→ltb}
+use lib.Dec.{T}
 use Rattle.meaning.specs.Nodes.{node}
 use Rattle.meaning.specs.Opening.{Criterion, lighter, openedAt, patch}
 use Rattle.meaning.specs.Paths.{Grid, Joined}
-use Rattle.meaning.specs.Sets.{has, most}
-use Rattle.theory_lists.specs.Members.{Top}
+use Rattle.meaning.specs.Sets.{has}
 use Rattle.theory_connectivity.proofs.Paths.{end-below, end-ok, joined-mono, joined-sym, joined-trans, start-below}
-use Rattle.theory_lists.proofs.Sets.{top-or-none}
-use Rattle.theory_lists.proofs.Tests.{orders, tests}
-use Rattle.theory_opening.proofs.Opening.{joined-patch, opened-below, opened-kept, opened-least, patch-joined, patch-same}
-use Rattle.theory_tree.specs.Tree.{Hit, Over, Parent, Root}
+use Rattle.theory_lists.proofs.Tests.{orders}
+use Rattle.theory_opening.proofs.Opening.{opened-below, opened-kept, opened-least, patch-same}
+use Rattle.theory_tree.specs.Tree.{Hit, Over, Parent}
 use Rattle.theory_tree.proofs.Hits.{opened-hit}
 
 module _ {n : ℕ} {near : ℕ → ℕ → Bool} (grid : Grid n near) (f : ℕ → ℕ) where
@@ -26,30 +23,6 @@ module _ {n : ℕ} {near : ℕ → ℕ → Bool} (grid : Grid n near) (f : ℕ �
   pub nested : (a b p : ℕ) → Over n near f a p → Over n near f b p → f a ≤ f b → (q : ℕ) → Over n near f b q → Over n near f a q
   nested a b p ja jb l q jq =
       joined-trans ja (joined-mono (lighter f (f a)) (λ r i t. omega orders) (joined-trans (joined-sym (grid .back) jb) jq))
-
-  -- every node but the root has a parent
-  pub parent-or-root : (a : ℕ) → a < n → ((b : ℕ) × Parent n near f a b) ⊎ Root n near f a
-  parent-or-root a l = go (top-or-none n above f)
-    where
-      above : ℕ → Bool
-      above c = has (patch n near f (f c) c) a && ltb (f c) (f a)
-
-      up : (c : ℕ) → Over n near f c a → f c < f a → T (above c)
-      up c j d =
-          let h = joined-patch grid f (f c) c a j in
-          let k = lt→ltb (f c) (f a) d in
-          search tests
-
-      go : Top n above f ⊎ ((q : ℕ) → q < n → T (above q) → ⊥) → ((b : ℕ) × Parent n near f a b) ⊎ Root n near f a
-      go (inl r) = inl (
-        r .at,
-        record {
-          over = patch-joined grid f (f (r .at)) (r .at) a l (search (tests, r .member));
-          darker = ltb→lt (f (r .at)) (f a) (search (tests, r .member));
-          next = λ c j d. r .most c (start-below j) (up c j d);
-        },
-      )
-      go (inr e) = inr (λ c j d. e c (start-below j) (up c j d))
 
 module _ {n : ℕ} {near : ℕ → ℕ → Bool} {keep : (ℕ → Bool) → Bool} (grid : Grid n near) (crit : Criterion n keep) (f : ℕ → ℕ) where
   pub climb-kept : (a : ℕ) → T (keep (has (node n near f a))) → openedAt n near keep f a ≡ f a
@@ -90,16 +63,6 @@ module _ {n : ℕ} {near : ℕ → ℕ → Bool} {keep : (ℕ → Bool) → Bool
       le-antisymm
       (carry t a b here-t (opened-kept grid crit f t a la (le-refl t)))
       (carry u b a here-u (opened-kept grid crit f u b lb (le-refl u)))
-
-  -- the root is kept
-  pub root-kept : (a : ℕ) → a < n → Root n near f a → T (keep (has (node n near f a)))
-  unfolding node
-  root-kept a l root =
-      let h = opened-hit grid crit f a l in
-      opened-kept grid crit f (f a) a l (elim (decLe (f a) (openedAt n near keep f a)) [
-        | yes k ↦ k
-        | no k ↦ absurd (root (h .at) (hit-over (openedAt n near keep f a) a h) (omega (arith, h .level)))
-      ])
 
   -- pixels of one grey in one node have one opening
   same-le : (p q : ℕ) → Joined n near (lighter f (f p)) p q → openedAt n near keep f p ≤ openedAt n near keep f q

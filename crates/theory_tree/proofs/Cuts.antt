@@ -17,7 +17,8 @@ use Rattle.theory_tree.specs.Tree.{Nodes}
 use Rattle.theory_tree.proofs.Climb.{climb-kept, climb-parent, climb-same}
 use Rattle.theory_tree.proofs.Nodes.{over-holds, own-level, own-over, parent-below, parent-parent, root-over}
 
-module _ {n : ℕ} {near : ℕ → ℕ → Bool} {keep : (ℕ → Bool) → Bool} (grid : Grid n near) (crit : Criterion n keep) {f : ℕ → ℕ} {xs : List ℕ} (nodes : Nodes n near f xs) where
+module _ {n : ℕ} {near : ℕ → ℕ → Bool} {keep : (ℕ → Bool) → Bool} (grid : Grid n near) (crit : Criterion n keep)
+    {f : ℕ → ℕ} {xs : List ℕ} (nodes : Nodes n near f xs) where
   pub cut-own : (p : ℕ) → p < n → openedAt n near keep f p ≡ openedAt n near keep f (nth xs (own n near f xs p))
   cut-own p l = sym (climb-same grid crit f (nth xs (own n near f xs p)) p (own-over grid nodes p l) (sym (own-level grid nodes p l)))
 

@@ -70,7 +70,9 @@ module _ {n : ℕ} {near : ℕ → ℕ → Bool} (grid : Grid n near) {f : ℕ �
       ) in
       let c = sum-pos last (λ (c : ℕ). bit (child c)) some-child in
       let u : T (child (c .0)) = bit-true (child (c .0)) (c .2) in
-      (suc (c .0), omega arith, omega (arith, z .1, c .1), eqb→eq (parent n near f xs (suc (c .0))) k (both-left (eqb (parent n near f xs (suc (c .0))) k) (holds n near f xs (suc (c .0)) r) u))
+      let i : ℕ = suc (c .0) in
+      let is : parent n near f xs i ≡ k = eqb→eq (parent n near f xs i) k (both-left (eqb (parent n near f xs i) k) (holds n near f xs i r) u) in
+      (i, omega arith, omega (arith, z .1, c .1), is)
 
   pub leaf-maximum : (p : ℕ) → p < n → ((i : ℕ) → 0 < i → i < length xs → parent n near f xs i ≡ own n near f xs p → ⊥) → T (maximum n near f p)
   leaf-maximum p l leaf = maximum-complete n near f p darker

@@ -1,7 +1,7 @@
--- Totals of cuts, and what each value of the attribute takes away. Proved for every attribute: the cut of the tree is the opening (cut-opened); the total of the
--- cut at a limit is the sum, over the nodes that qualify, of area times rise (total-nodes); the grey lost at a is that sum over the nodes whose attribute is a
--- (lost-nodes), and the total at a less the total at a + 1 (total-lost); the losses at 1 .. n - 1 and the total at n make the plate's total (losses-total).
--- For the area: the cut at n is the darkest grey everywhere (area-all-darkest).
+-- Totals of cuts, and what each value of the attribute takes away. Proved for every attribute: the cut of the tree is the opening (cut-opened); the total
+-- of the cut at a limit is the sum, over the nodes that qualify, of area times rise (total-nodes); the grey lost at a is that sum over the nodes whose
+-- attribute is a (lost-nodes), and with the total at a + 1 it makes the total at a (total-lost); the losses at 1 .. n - 1 and the total at n make the
+-- plate's total (losses-total). For the area: the cut at n is the darkest grey everywhere (area-all-darkest).
 use mathlib.Core.Path.{_≡_, sym, ap, _∙_}
 use mathlib.Core.Bool.{Bool}
 use mathlib.Core.List.{List}
@@ -31,14 +31,16 @@ use Rattle.theory_tree.proofs.Rises.{live-hit, live-level, live-root, t
 
 -- ---- the cut of the tree is the opening
 
-module _ {n : ℕ} {near : ℕ → ℕ → Bool} {keep : (ℕ → Bool) → Bool} (grid : Grid n near) (crit : Criterion n keep) {f : ℕ → ℕ} {xs : List ℕ} (nodes : Nodes n near f xs) where
+module _ {n : ℕ} {near : ℕ → ℕ → Bool} {keep : (ℕ → Bool) → Bool} (grid : Grid n near) (crit : Criterion n keep)
+    {f : ℕ → ℕ} {xs : List ℕ} (nodes : Nodes n near f xs) where
   pub cut-opened : (p : ℕ) → p < n → cutAt n near f xs keep p ≡ openedAt n near keep f p
   unfolding cutAt live
   cut-opened p l =
       let g : ℕ → ℕ = λ (j : ℕ). pick (live n near f xs keep p j) (levelOf n near f xs j) 0 in
       let r = live-hit grid crit nodes p l in
       le-antisymm
-      (most-le (length xs) g (openedAt n near keep f p) (λ j m. pick-le (live n near f xs keep p j) (f (nth xs j)) (openedAt n near keep f p) (live-level grid crit nodes p j l)))
+      (most-le (length xs) g (openedAt n near keep f p)
+      (λ j m. pick-le (live n near f xs keep p j) (f (nth xs j)) (openedAt n near keep f p) (live-level grid crit nodes p j l)))
       (le-trans (le-of-eq (sym (r .3) ∙ sym (pick-yes (live n near f xs keep p (r .0)) (f (nth xs (r .0))) 0 (r .2)))) (most-ge (length xs) g (r .0) (r .1)))
 
 -- ---- one node: at least a is at least a + 1, or exactly a
@@ -71,7 +73,8 @@ split a s r = elim (decLe a s) [
       )
 ]
 
-module _ {n : ℕ} {near : ℕ → ℕ → Bool} {att : (ℕ → Bool) → ℕ} (grid : Grid n near) (at : Attribute n att) {f : ℕ → ℕ} {xs : List ℕ} (nodes : Nodes n near f xs) where
+module _ {n : ℕ} {near : ℕ → ℕ → Bool} {att : (ℕ → Bool) → ℕ} (grid : Grid n near) (at : Attribute n att)
+    {f : ℕ → ℕ} {xs : List ℕ} (nodes : Nodes n near f xs) where
   abbrev cutTotal : ℕ → ℕ
   cutTotal limit = sum n (cutAt n near f xs (atLeast att limit))
 

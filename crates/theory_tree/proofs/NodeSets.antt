@@ -1,6 +1,6 @@
--- the specification's nodes are the numbered ones: each number is a node (number-node), each node has exactly one number (node-number, number-only), a node's level is the
--- least grey in it and its anchor its lowest pixel of that level (level-least, anchor-lowest); a pixel's nodes are its own and that one's ancestors
--- (nodes-chain), up to the root, which is the whole plate.
+-- The specification's nodes are the numbered ones: each number is a node (number-node), each node has exactly one number (node-number, number-only), a
+-- node's level is the least grey in it and its anchor its lowest pixel of that level (level-least, anchor-lowest); a pixel's nodes are its own and that
+-- one's ancestors (nodes-chain), up to the root, which is the whole plate.
 use mathlib.Core.Path.{_≡_}
 use mathlib.Core.Logic.{_↔_}
 use mathlib.Core.Bool.{Bool}
@@ -22,7 +22,24 @@ use Rattle.theory_lists.proofs.Tests.{orders}
 use Rattle.theory_tree.specs.Tree.{Ancestor, Nodes, Over, above, self}
 use Rattle.theory_tree.proofs.Anchors.{anchor-least}
 use Rattle.theory_tree.proofs.Climb.{nested}
-use Rattle.theory_tree.proofs.Nodes.{above-within, holds-over, level-le, level-same, nth-fixed, nth-inside, over-holds, over-level, own-below, own-level, own-over, parent-below, parent-last, parent-length, parent-over, self-over}
+use Rattle.theory_tree.proofs.Nodes.{
+  above-within,
+  holds-over,
+  level-le,
+  level-same,
+  nth-fixed,
+  nth-inside,
+  over-holds,
+  over-level,
+  own-below,
+  own-level,
+  own-over,
+  parent-below,
+  parent-last,
+  parent-length,
+  parent-over,
+  self-over,
+}
 
 module _ {n : ℕ} {near : ℕ → ℕ → Bool} (grid : Grid n near) {f : ℕ → ℕ} {xs : List ℕ} (nodes : Nodes n near f xs) where
   pub number-node : (i : ℕ) → i < length xs → NodeSet n near f (holds n near f xs i)
@@ -80,8 +97,10 @@ module _ {n : ℕ} {near : ℕ → ℕ → Bool} (grid : Grid n near) {f : ℕ �
   number-only i j li lj s =
       let ai : ℕ = nth xs i in
       let aj : ℕ = nth xs j in
-      let oi : Over n near f aj ai = holds-over grid nodes j ai (nth-inside grid nodes i li) (s .0 ai (nth-inside grid nodes i li) (over-holds grid nodes i ai (self-over grid nodes i li))) in
-      let oj : Over n near f ai aj = holds-over grid nodes i aj (nth-inside grid nodes j lj) (s .1 aj (nth-inside grid nodes j lj) (over-holds grid nodes j aj (self-over grid nodes j lj))) in
+      let ii : ai < n = nth-inside grid nodes i li in
+      let ij : aj < n = nth-inside grid nodes j lj in
+      let oi : Over n near f aj ai = holds-over grid nodes j ai ii (s .0 ai ii (over-holds grid nodes i ai (self-over grid nodes i li))) in
+      let oj : Over n near f ai aj = holds-over grid nodes i aj ij (s .1 aj ij (over-holds grid nodes j aj (self-over grid nodes j lj))) in
       level-same grid nodes i j ai li lj (self-over grid nodes i li) oi (omega (arith, over-level grid nodes ai aj oj, over-level grid nodes aj ai oi))
 
   pub level-least : (i q : ℕ) → q < n → T (holds n near f xs i q) → levelOf n near f xs i ≤ f q
@@ -105,7 +124,8 @@ module _ {n : ℕ} {near : ℕ → ℕ → Bool} (grid : Grid n near) {f : ℕ �
       ancestor-holds (parent n near f xs i) j p (parent-length grid nodes i l) m (parent-holds i p l m t) a
 
   -- of two nodes that hold p the one with the lower number is an ancestor; b bounds the higher number
-  lower-ancestor : (b i j p : ℕ) → i < b → i < length xs → j ≤ i → p < n → T (holds n near f xs i p) → T (holds n near f xs j p) → Ancestor (parent n near f xs) i j
+  lower-ancestor : (b i j p : ℕ) → i < b → i < length xs → j ≤ i → p < n → T (holds n near f xs i p) → T (holds n near f xs j p)
+      → Ancestor (parent n near f xs) i j
   lower-ancestor zero i j p h l m lp ti tj = absurd (omega arith)
   lower-ancestor (suc b) i j p h l m lp ti tj = elim (decLe i j) [
     | yes k ↦ let e : i ≡ j = omega arith in rw e self
@@ -113,7 +133,8 @@ module _ {n : ℕ} {near : ℕ → ℕ → Bool} (grid : Grid n near) {f : ℕ �
         let pos : 0 < i = omega arith in
         let lj : j < length xs = omega arith in
         let over : Over n near f (nth xs j) (nth xs i) =
-        nested grid f (nth xs j) (nth xs i) p (holds-over grid nodes j p lp tj) (holds-over grid nodes i p lp ti) (level-le grid nodes j i m l) (nth xs i) (self-over grid nodes i l) in
+        nested grid f (nth xs j) (nth xs i) p (holds-over grid nodes j p lp tj) (holds-over grid nodes i p lp ti) (level-le grid nodes j i m l) (nth xs i)
+        (self-over grid nodes i l) in
         let up : j ≤ parent n near f xs i = parent-last grid nodes i j (omega arith) over in
         let less : parent n near f xs i < i = parent-below grid nodes i pos in
         above pos (lower-ancestor b (parent n near f xs i) j p (omega arith) (omega arith) up lp (parent-holds i p l lp ti) tj)

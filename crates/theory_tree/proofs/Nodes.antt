@@ -17,7 +17,20 @@ use Rattle.meaning.specs.Nodes.{anchor, anchors, areaOf, holds, node, own, pare
 use Rattle.meaning.specs.Opening.{lighter}
 use Rattle.meaning.specs.Paths.{Grid, here}
 use Rattle.meaning.specs.Sets.{Distinct, Within, nth, rising, some}
-use Rattle.theory_lists.proofs.Lists.{elem-nth, gather-rising, gather-sound, nth-inj, nth-le, nth-lt, place-is, rising-distinct, rising-nth, rising-rising, rising-same, rising-sound}
+use Rattle.theory_lists.proofs.Lists.{
+  elem-nth,
+  gather-rising,
+  gather-sound,
+  nth-inj,
+  nth-le,
+  nth-lt,
+  place-is,
+  rising-distinct,
+  rising-nth,
+  rising-rising,
+  rising-same,
+  rising-sound,
+}
 use Rattle.theory_connectivity.proofs.Paths.{end-ok, joined-mono, joined-sym, joined-trans, start-below}
 use Rattle.theory_lists.proofs.Sets.{area-all, area-grows, greatest-good, greatest-le, greatest-most, some-elim, some-intro, top}
 use Rattle.theory_lists.proofs.Tests.{choice, orders, tests}
@@ -206,7 +219,8 @@ module _ {n : ℕ} {near : ℕ → ℕ → Bool} (grid : Grid n near) {f : ℕ �
       above-area = elim (area-grows n (holds n near f xs i) (holds n near f xs j) above-within) [
         | inl h ↦ h
         | inr w ↦
-            let back : Over n near f (nth xs i) (nth xs j) = holds-over i (nth xs j) (nth-inside j lj) (w (nth xs j) (nth-inside j lj) (over-holds j (nth xs j) (self-over j lj))) in
+            let inside : nth xs j < n = nth-inside j lj in
+            let back : Over n near f (nth xs i) (nth xs j) = holds-over i (nth xs j) inside (w (nth xs j) inside (over-holds j (nth xs j) (self-over j lj))) in
             absurd (omega (arith, above-level, over-level (nth xs i) (nth xs j) back))
       ]
 

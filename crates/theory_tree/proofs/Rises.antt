@@ -22,9 +22,23 @@ use Rattle.theory_opening.proofs.Opening.{joined-patch, opened-kept, opened-lea
 use Rattle.theory_tree.specs.Tree.{Nodes, Over, live}
 use Rattle.theory_tree.proofs.Climb.{nested}
 use Rattle.theory_tree.proofs.Hits.{opened-hit}
-use Rattle.theory_tree.proofs.Nodes.{above-within, holds-over, level-le, nth-inside, over-holds, own-below, own-level, own-over, parent-level, root-over, self-over, some-node}
+use Rattle.theory_tree.proofs.Nodes.{
+  above-within,
+  holds-over,
+  level-le,
+  nth-inside,
+  over-holds,
+  own-below,
+  own-level,
+  own-over,
+  parent-level,
+  root-over,
+  self-over,
+  some-node,
+}
 
-module _ {n : ℕ} {near : ℕ → ℕ → Bool} {keep : (ℕ → Bool) → Bool} (grid : Grid n near) (crit : Criterion n keep) {f : ℕ → ℕ} {xs : List ℕ} (nodes : Nodes n near f xs) where
+module _ {n : ℕ} {near : ℕ → ℕ → Bool} {keep : (ℕ → Bool) → Bool} (grid : Grid n near) (crit : Criterion n keep)
+    {f : ℕ → ℕ} {xs : List ℕ} (nodes : Nodes n near f xs) where
   -- ---- the kept nodes that hold p
 
   live-intro : (p j : ℕ) → T (holds n near f xs j p) → T (keep (holds n near f xs j)) → T (live n near f xs keep p j)
@@ -67,7 +81,8 @@ module _ {n : ℕ} {near : ℕ → ℕ → Bool} {keep : (ℕ → Bool) → Bool
       let o : Joined n near (lighter f t) a p = joined-trans (rw e at (own-over grid nodes (r .at) m)) (joined-sym (grid .back) (r .joined)) in
       let h : T (has (patch n near f (f a) a) p) = rw e (joined-patch grid f t a p o) in
       let k : T (keep (has (patch n near f (f a) a))) =
-      rw e (crit .increasing (has (patch n near f t p)) (has (patch n near f t a)) (patch-same grid f t p a (joined-sym (grid .back) o)) (opened-kept grid crit f t p l (le-refl t))) in
+      rw e (crit .increasing (has (patch n near f t p)) (has (patch n near f t a)) (patch-same grid f t p a (joined-sym (grid .back) o))
+      (opened-kept grid crit f t p l (le-refl t))) in
       (j, own-below grid nodes (r .at) m, live-intro p j h k, e)
 
   -- the opening's grey is the level of the last kept node that holds p
@@ -109,7 +124,8 @@ module _ {n : ℕ} {near : ℕ → ℕ → Bool} {keep : (ℕ → Bool) → Bool
   live-sum p l zero m = omega (arith, pick-yes (live n near f xs keep p 0) (f (nth xs 0)) 0 (live-root p l))
   live-sum p l (suc k) m = go (live n near f xs keep p (suc k)) refl (live-sum p l k (omega arith))
     where
-      go : (b : Bool) → live n near f xs keep p (suc k) ≡ b → sum (suc k) (λ (j : ℕ). pick (live n near f xs keep p j) (rise n near f xs j) 0) ≡ f (nth xs (greatest (live n near f xs keep p) k))
+      go : (b : Bool) → live n near f xs keep p (suc k) ≡ b
+          → sum (suc k) (λ (j : ℕ). pick (live n near f xs keep p j) (rise n near f xs j) 0) ≡ f (nth xs (greatest (live n near f xs keep p) k))
           → pick b (rise n near f xs (suc k)) 0 + sum (suc k) (λ (j : ℕ). pick (live n near f xs keep p j) (rise n near f xs j) 0)
           ≡ f (nth xs (pick b (suc k) (greatest (live n near f xs keep p) k)))
       go true e ih =

@@ -21,10 +21,6 @@ pub record Parent (n : ℕ) (near : ℕ → ℕ → Bool) (f : ℕ → ℕ) (a b
   pub darker : f b < f a
   pub next : (c : ℕ) → Over n near f c a → f c < f a → f c ≤ f b
 
--- a's node is the root: no darker node holds a
-abbrev pub Root : (n : ℕ) (near : ℕ → ℕ → Bool) (f : ℕ → ℕ) → ℕ → Type 0
-Root n near f a = (c : ℕ) → Over n near f c a → f c < f a → ⊥
-
 -- a pixel that is joined to p at level t, and is of grey t
 pub record Hit (n : ℕ) (near : ℕ → ℕ → Bool) (f : ℕ → ℕ) (t p : ℕ) : Type 0 where
   pub at : ℕ

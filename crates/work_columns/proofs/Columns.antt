@@ -1,14 +1,16 @@
 -- Laws of columns: a store at an entry of a column changes only that place; frames compose; two columns that agree are equal.
-use mathlib.Core.Path.{_≡_, refl, sym, _∙_, fun-ext}
+use mathlib.Core.Path.{_≡_, refl, sym, ap, _∙_, fun-ext}
 use mathlib.Core.Logic.{inl, inr}
-use mathlib.Core.List.{List}
+use mathlib.Core.Bool.{true}
+use mathlib.Core.List.{List, _++_}
 use Prim.Native.Nat.{ℕ, suc, _+_, _*_, _<_}
 use native.Mathlib.Nat.{mul-le-mul-right, suc-mul}
 use native.Mathlib.Decide.{decLe}
 use native.Mathlib.Omega.{arith}
 use lib.Dec.{ltb, ltb→lt, lt→ltb}
-use lib.ListN.{getD, set, length-set}
+use lib.ListN.{drop, getD, replicate, set, length-set}
 use lib.Seq.{getD-set-same, getD-set-other, drop-set-lt}
+use Rattle.meaning.specs.Answers.{workAfter}
 use Rattle.meaning.specs.Examples.{small}
 use Rattle.meaning.specs.Sets.{pick}
 use Rattle.theory_lists.proofs.Tests.{choice, pick-no, pick-yes}
@@ -23,6 +25,10 @@ frame-trans a b = record { len = b .len ∙ a .len; tail = b .tail ∙ a .tail }
 -- the slice has room as long as it keeps its length
 pub frame-room : {n : ℕ} {w w′ : List ℕ} → Room w n → Frame n w w′ → Room w′ n
 frame-room r a = record { small = r .small; room = omega (arith, a .len, r .room) }
+
+-- the columns of w′ set to zero, by what the work space w was at the start
+pub cleared : {n : ℕ} {w w′ w″ : List ℕ} → Frame n w w′ → w″ ≡ replicate (8 * n) 0 ++ drop (8 * n) w′ → w″ ≡ workAfter true n w
+cleared {n} f e = e ∙ ap (λ (t : List ℕ). replicate (8 * n) 0 ++ t) (f .tail)
 
 pub col-in : (c n : ℕ) (w : List ℕ) (i : ℕ) → i < n → col c n w i ≡ getD w (c * n + i) 0
 unfolding col

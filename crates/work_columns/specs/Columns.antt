@@ -5,6 +5,7 @@ use mathlib.Core.List.{List}
 use Prim.Native.Nat.{ℕ, _+_, _*_, _≤_, _<_}
 use lib.Dec.{ltb}
 use lib.ListN.{length, getD, drop}
+use Rattle.meaning.specs.Plate.{maxPixels}
 use Rattle.meaning.specs.Sets.{pick}
 
 -- column c of w, n entries long
@@ -13,7 +14,7 @@ col c n w i = pick (ltb i n) (getD w (c * n + i) 0) 0
 
 -- the slice holds eight columns of n entries
 pub record Room (w : List ℕ) (n : ℕ) : Type 0 where
-  pub small : n ≤ 16777216
+  pub small : n ≤ maxPixels
   pub room : 8 * n ≤ length w
 
 -- g′ is g with v at i, below n

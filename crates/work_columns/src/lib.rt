@@ -5,6 +5,36 @@ ghost use Prim.Native.Nat.{_+_, _*_, _<_};
 ghost use lib.ListN.{drop, replicate};
 ghost use Rattle.work_columns.specs.Columns.{col, Room, Stored};
 
+// ---- the columns, as specs/Layout.antt names them
+
+// By pixel: its grey; its node (while flooding, n plus its grey where it has none yet).
+pub const GREY: usize = 0;
+
+pub const OWN: usize = 1;
+
+// While flooding, the pixels to visit; by node: its anchor, its level.
+pub const STACK: usize = 2;
+
+pub const ANCHOR: usize = 2;
+
+pub const LEVEL: usize = 3;
+
+// By node in the order of flooding: its parent, its area; its anchor; its number, in the place of its area.
+pub const FLOOD_PARENT: usize = 3;
+
+pub const FLOOD_AREA: usize = 4;
+
+pub const FIRST: usize = 6;
+
+pub const NUMBER: usize = 4;
+
+// By node: its parent, its area; a free column for an operation.
+pub const PARENT: usize = 5;
+
+pub const AREA: usize = 7;
+
+pub const VALUE: usize = 4;
+
 // The entry i of column c.
 pub fn get(w: &[u32], n: usize, c: usize, i: usize) -> usize
     requires { ⌜ Room (now w) n ⌝ }

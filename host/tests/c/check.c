@@ -144,13 +144,25 @@ static void check_joint(void)
     uint8_t *bytes = filled(27), *out = filled(PIXELS);
     uint32_t *work = filled(WORK * sizeof *work), *counts = filled(11 * sizeof *counts);
     uint64_t *losses = filled(11 * sizeof *losses);
+    /* a short output or table is looked for ahead of the work space, a short record after it */
     struct livukoe_joint joint = livukoe_write_cut_list(
+        SMALL, PIXELS, WIDTH, HEIGHT, 4, 2, bytes, 26, out, PIXELS - 1, counts, 11, losses, 11, work, WORK - 1);
+    EXPECT(joint.refusal == LIVUKOE_OUTPUT_SHORT);
+    joint = livukoe_write_cut_list(
+        SMALL, PIXELS, WIDTH, HEIGHT, 4, 2, bytes, 26, out, PIXELS, counts, 11, losses, 10, work, WORK - 1);
+    EXPECT(joint.refusal == LIVUKOE_OUTPUT_SHORT);
+    joint = livukoe_write_cut_list(
+        SMALL, PIXELS, WIDTH, HEIGHT, 4, 2, bytes, 26, out, PIXELS, counts, 11, losses, 11, work, WORK - 1);
+    EXPECT(joint.refusal == LIVUKOE_WORK_SHORT && all(work, 77, WORK * sizeof *work));
+    joint = livukoe_write_cut_list(
         SMALL, PIXELS, WIDTH, HEIGHT, 4, 2, bytes, 26, out, PIXELS, counts, 11, losses, 11, work, WORK);
     EXPECT(joint.refusal == LIVUKOE_OUTPUT_SHORT && joint.length == 0 && all(bytes, 77, 27) && all(out, 77, PIXELS));
+    EXPECT(all(counts, 77, 11 * sizeof *counts) && all(losses, 77, 11 * sizeof *losses));
+    EXPECT(all(work, 0, WORK * sizeof *work));
     joint = livukoe_write_cut_list(
         SMALL, PIXELS, WIDTH, HEIGHT, 4, 2, bytes, 27, out, PIXELS, counts, 11, losses, 11, work, WORK);
     EXPECT(joint.refusal == 0 && joint.length == 27 && joint.nodes == 4 && joint.darkest == 10);
-    EXPECT(out[5] == 30 && out[11] == 10 && counts[0] == 2 && losses[0] == 100 && all(work, 0, 8 * PIXELS * sizeof *work));
+    EXPECT(out[5] == 30 && out[11] == 10 && counts[0] == 2 && losses[0] == 100 && all(work, 0, WORK * sizeof *work));
     free(bytes);
     free(out);
     free(work);
@@ -174,9 +186,9 @@ static void check_noise(uint32_t connectivity)
     EXPECT(memcmp(out, again, MANY) == 0);
     EXPECT(livukoe_area_close(image, MANY, SIDE, SIDE, connectivity, 9, out, MANY, work, 8 * MANY) == 0);
     EXPECT(livukoe_regional_maxima(image, MANY, SIDE, SIDE, connectivity, out, MANY, work, 8 * MANY) == 0);
-    uint8_t *bytes = filled(11 + 14 * MANY);
-    struct livukoe_record_length written =
-        livukoe_write_record(image, MANY, SIDE, SIDE, connectivity, bytes, 11 + 14 * MANY, work, 8 * MANY);
+    uint8_t *bytes = filled(LIVUKOE_RECORD_BYTES(MANY));
+    struct livukoe_record_length written = livukoe_write_record(
+        image, MANY, SIDE, SIDE, connectivity, bytes, LIVUKOE_RECORD_BYTES(MANY), work, LIVUKOE_WORK_NUMBERS(MANY));
     EXPECT(written.refusal == 0);
     EXPECT(livukoe_read_record(bytes, written.length, out, MANY, work, 8 * MANY).refusal == 0);
     EXPECT(memcmp(out, image, MANY) == 0);

@@ -38,9 +38,9 @@ use denote.Triple.Table.{entered, cited}
 use denote.Triple.Walked.{says, Stays, stay-none, stay-none-slice, gave-slice, walkOf, goes-none, goes-none-slice, goes-gave-slice, Walks, ends-at, walked, walk-meets}
 use denote.Exit.{yes}
 use denote.Signature.{plain}
-use Rattle.plate_filter.specs.declared.NodeList.{NodeList}
-use Rattle.plate_filter.proofs.NodeList as N
-use Rattle.plate_filter.proofs.NodeList.Laws as N′
+use Rattle.plate_tree.specs.declared.NodeList.{NodeList}
+use Rattle.plate_tree.proofs.NodeList as N
+use Rattle.plate_tree.proofs.NodeList.Laws as N′
 use Rattle.plate_entries.specs.declared.Node.{Node}
 use Rattle.plate_entries.specs.Entries.{EntriesListed}
 use Rattle.plate_entries.proofs.Node as T
@@ -118,9 +118,11 @@ module _ {M : Type 1} (𝓤 : URA M) (H : Heap 𝓤) (A : Atoms 𝓤) (W : Given
         → ent 𝓤 (⋆ 𝓤 H A ((‵ (flft κ₀ q₀) ⊛ (‵ (flft κ₁ q₁) ⊛ (‵ (flft κ₂ q₂) ⊛ ‵ ftrue))) ∷ ‵ Plate ∷ ‵ (finally T.the-row (list .name) ys₁) ∷ ‵ (finally u32 (work .name) ws₁) ∷ ‵ (N.the-row .own r (N′.lowered r ∷ [])) ∷ [])) (Post (N′.lowered r))
     exits r ys₁ ws₁ l l′ e =
         qed W ((‵ (flft κ₀ q₀) ⊛ (‵ (flft κ₁ q₁) ⊛ (‵ (flft κ₂ q₂) ⊛ ‵ ftrue))) ∷ ‵ Plate ∷ ‵ (finally T.the-row (list .name) ys₁) ∷ ‵ (finally u32 (work .name) ws₁) ∷ ‵ (N.the-row .own r (N′.lowered r ∷ [])) ∷ []) ∵
-        suffices ! _ (ends-at 𝓤 H A listing.ended stayed (listing.clauses 𝓤 H A mem run) W bound (N′.lowered r) r (tt, (tt, (tt, (tt, (ys₁, (ws₁, tt)))))) (tt, (tt, (tt, (tt, (l, (l′, tt))))))) $ says ! e $ frame ! $
+        suffices ! _ (ends-at 𝓤 H A listing.ended stayed (listing.clauses 𝓤 H A mem run) W bound (N′.lowered r) r (tt, (tt, (tt, (tt, (ys₁, (ws₁, tt)))))) (tt, (tt, (tt, (tt, (l, (l′, tt))))))) $
+        says ! e $ frame ! $
         nothing ! $ move ! (3 ∷ 0 ∷ []) $ fjoin ! $ move ! (2 ∷ 0 ∷ []) $ fjoin ! $
-        owned ! u32 (Is u32) (uint-makes 𝓤 H A W w32) k _ (refl, k-fits) $ fjoin ! $ owned ! u32 (Is u32) (uint-makes 𝓤 H A W w32) h _ (refl, h-fits) $ fjoin ! $ owned ! u32 (Is u32) (uint-makes 𝓤 H A W w32) w _ (refl, w-fits) $ fjoin ! $
+        owned ! u32 (Is u32) (uint-makes 𝓤 H A W w32) k _ (refl, k-fits) $ fjoin ! $ owned ! u32 (Is u32) (uint-makes 𝓤 H A W w32) h _ (refl, h-fits) $
+        fjoin ! $ owned ! u32 (Is u32) (uint-makes 𝓤 H A W w32) w _ (refl, w-fits) $ fjoin ! $
         move ! (1 ∷ 0 ∷ []) $ fjoin ! $ done !
 
     module _ (C : Calls 𝓤 H) (Λ : Loops 𝓤 H) (fm : FmC 𝓤 H (W .laws) C) (known : Triple 𝓤 (C #plate-entries·node-entries) (Listing 𝓤 H A mem run)) where
@@ -128,9 +130,12 @@ module _ {M : Type 1} (𝓤 : URA M) (H : Heap 𝓤) (A : Atoms 𝓤) (W : Given
       walk =
           qed W ((‵ (flft κ₀ q₀) ⊛ (‵ (flft κ₁ q₁) ⊛ (‵ (flft κ₂ q₂) ⊛ ‵ ftrue))) ∷ ‵ Owned ∷ []) ∵
           enter ! C Λ code.function (s₀ ∷ vint w32 w ∷ vint w32 h ∷ vint w32 k ∷ s₁ ∷ s₂ ∷ []) _ $
-          alloc1 ! (λ l₀. alloc1 ! (λ l₁. alloc1 ! (λ l₂. alloc1 ! (λ l₃. alloc1 ! (λ l₄. alloc1 ! (λ l₅. alloc1 ! (λ l₆. alloc1 ! (λ l₇. alloc1 ! (λ l₈. alloc1 ! (λ l₉. alloc1 ! (λ l₁₀. alloc0 ! $ params1 ! $
-          pass1 ! (init ! 18 refl (tt, (tt, (record { fits = room₀ .0 }, tt)))) $ pass1 ! (init ! 16 refl (tt, record { fits = w-fits })) $ pass1 ! (init ! 14 refl (tt, record { fits = h-fits })) $
-          pass1 ! (init ! 12 refl (tt, record { fits = k-fits })) $ pass1 ! (init ! 10 refl (tt, (tt, (record { fits = room₁ .0 }, tt)))) $ pass1 ! (init ! 8 refl (tt, (tt, (record { fits = room₂ .0 }, tt)))) $ pass0 ! $
+          alloc1 ! (λ l₀. alloc1 ! (λ l₁. alloc1 ! (λ l₂. alloc1 ! (λ l₃. alloc1 ! (λ l₄. alloc1 ! (λ l₅. alloc1 ! (λ l₆. alloc1 ! (λ l₇. alloc1 ! (λ l₈. alloc1 ! (λ l₉. alloc1 ! (λ l₁₀. alloc0 ! $
+          params1 ! $
+          pass1 ! (init ! 18 refl (tt, (tt, (record { fits = room₀ .0 }, tt)))) $ pass1 ! (init ! 16 refl (tt, record { fits = w-fits })) $
+          pass1 ! (init ! 14 refl (tt, record { fits = h-fits })) $
+          pass1 ! (init ! 12 refl (tt, record { fits = k-fits })) $ pass1 ! (init ! 10 refl (tt, (tt, (record { fits = room₁ .0 }, tt)))) $
+          pass1 ! (init ! 8 refl (tt, (tt, (record { fits = room₂ .0 }, tt)))) $ pass0 ! $
           -- [_10; …; _0; …; the tokens; what the parameters own]: the list and the work space handed on
           assigns ! (addr ! (from ! (fld ! refl (hop ! (look-in ! 10 (sub ! 0 refl (whole !))) (stop !))))) (from ! (stop !)) (init ! 6 refl (tt, tt)) $
           assigns ! (agg ! (and-then ! (load ! (from ! (stop !)) (look ! 6 refl)) (and-then ! (load ! (from ! (fld ! refl (stop !))) (look-in ! 10 (sub ! 1 refl (whole !)))) (no-more !)))) (from ! (stop !)) (init ! 4 refl (tt, (tt, (record { fits = room₁ .0 }, tt)))) $
@@ -141,20 +146,28 @@ module _ {M : Type 1} (𝓤 : URA M) (H : Heap 𝓤) (A : Atoms 𝓤) (W : Given
           -- [what `node_entries` asks; the plate; _10; …]
           calls-at ! fm (Listing 𝓤 H A mem run) known to-listing (and-then ! (load ! (from ! (stop !)) (look ! 20 refl)) (and-then ! (load ! (from ! (stop !)) (look ! 18 refl)) (and-then ! (load ! (from ! (stop !)) (look ! 16 refl))
           (and-then ! (load ! (from ! (stop !)) (look ! 14 refl)) (and-then ! (load ! (from ! (stop !)) (look ! 6 refl)) (and-then ! (load ! (from ! (stop !)) (look ! 2 refl)) (no-more !))))))) (λ v.
-          use1 W (later (some (λ (r : NodeList). ((‵ (flft κ₀ q₀) ⊛ (‵ (flft κ₁ q₁) ⊛ (‵ (flft κ₂ q₂) ⊛ ‵ ftrue))) ⊛ ‵ (N.the-row .own r (v ∷ []))) ⊛ raw (ensured 𝓤 H A callee.ended (callee.clauses 𝓤 H A mem run) (κ₀, (κ₁, (κ₂, tt))) a tt r)))) (id⊢ 𝓤 _) $ await ! tt $ pick ! (λ r.
-          split ! $ move ! (1 ∷ []) $ use1 W (some (λ (zs : Lasts). ‵ (lasts callee.ended (κ₀, (κ₁, (κ₂, tt))) a zs) ⊛ raw (fact 𝓤 (EntriesListed k w h f ys (zs .1 .1 .1 .1 .0) ws (zs .1 .1 .1 .1 .1 .0) (r .refusal) (r .count))))) (id⊢ 𝓤 _) $ pick ! (λ zs.
+          use1 W (later (some (λ (r : NodeList). ((‵ (flft κ₀ q₀) ⊛ (‵ (flft κ₁ q₁) ⊛ (‵ (flft κ₂ q₂) ⊛ ‵ ftrue))) ⊛ ‵ (N.the-row .own r (v ∷ []))) ⊛ raw (ensured 𝓤 H A callee.ended (callee.clauses 𝓤 H A mem run) (κ₀, (κ₁, (κ₂, tt))) a tt r)))) (id⊢ 𝓤 _) $
+          await ! tt $ pick ! (λ r.
+          split ! $ move ! (1 ∷ []) $
+          use1 W (some (λ (zs : Lasts). ‵ (lasts callee.ended (κ₀, (κ₁, (κ₂, tt))) a zs) ⊛ raw (fact 𝓤 (EntriesListed k w h f ys (zs .1 .1 .1 .1 .0) ws (zs .1 .1 .1 .1 .1 .0) (r .refusal) (r .count))))) (id⊢ 𝓤 _) $
+          pick ! (λ zs.
           split ! $ move ! (1 ∷ []) $ heard ! (EntriesListed k w h f ys (zs .1 .1 .1 .1 .0) ws (zs .1 .1 .1 .1 .1 .0) (r .refusal) (r .count)) (λ e.
-          fsplit ! $ drop ! $ fsplit ! $ drop ! $ fsplit ! $ drop ! $ fsplit ! $ drop ! $ fsplit ! $ fsplit ! $ move ! (1 ∷ []) $ feqL ! (λ len₁. move ! (1 ∷ []) $ fsplit ! $ fsplit ! $ move ! (1 ∷ []) $ feqL ! (λ len₂.
+          fsplit ! $ drop ! $ fsplit ! $ drop ! $ fsplit ! $ drop ! $ fsplit ! $ drop ! $ fsplit ! $ fsplit ! $ move ! (1 ∷ []) $
+          feqL ! (λ len₁. move ! (1 ∷ []) $ fsplit ! $ fsplit ! $ move ! (1 ∷ []) $ feqL ! (λ len₂.
           move ! (1 ∷ []) $ drop ! $ move ! (2 ∷ []) $ split ! $ move ! (1 ∷ []) $
           -- [what the answer owns; the tokens; the work space's last list; the list's; the plate; _10; …]
           peeks ! N.the-row (Is N.the-row) (shows 𝓤 H A N.the-row) r (v ∷ []) (λ is.
           let tells : v ∷ [] ≡ N′.lowered r ∷ [] = LL.tells N.the-type N′.the-laws r (v ∷ []) is in
           land ! (from ! (stop !)) (init ! 25 refl (LL.lawful N.the-type N′.the-laws 𝓤 H A W .typed r _ is .0)) $
-          rewrite ! 25 (λ (u : Val). ‵ (fat fullShare N′.mir l₀ 0 u)) (ap only tells) refl $ rewrite ! 0 (λ (us : List Val). ‵ (N.the-row .own r us)) tells refl $
+          rewrite ! 25 (λ (u : Val). ‵ (fat fullShare N′.mir l₀ 0 u)) (ap only tells) refl $
+          rewrite ! 0 (λ (us : List Val). ‵ (N.the-row .own r us)) tells refl $
           returns ! (look ! 25 refl) $
-          forget ! 5 refl $ forget ! 7 refl $ forget ! 9 refl $ forget ! 11 refl $ forget ! 13 refl $ forget ! 15 refl $ forget ! 17 refl $ forget ! 19 refl $ forget ! 21 refl $ forget ! 23 refl $ forget ! 25 refl $
-          move ! (25 ∷ 26 ∷ []) $ free1 ! $ move ! (23 ∷ 24 ∷ []) $ free1 ! $ move ! (21 ∷ 22 ∷ []) $ free1 ! $ move ! (19 ∷ 20 ∷ []) $ free1 ! $ move ! (17 ∷ 18 ∷ []) $ free1 ! $ move ! (15 ∷ 16 ∷ []) $ free1 ! $
-          move ! (13 ∷ 14 ∷ []) $ free1 ! $ move ! (11 ∷ 12 ∷ []) $ free1 ! $ move ! (9 ∷ 10 ∷ []) $ free1 ! $ move ! (7 ∷ 8 ∷ []) $ free1 ! $ move ! (5 ∷ 6 ∷ []) $ free1 ! $
+          forget ! 5 refl $ forget ! 7 refl $ forget ! 9 refl $ forget ! 11 refl $ forget ! 13 refl $ forget ! 15 refl $ forget ! 17 refl $
+          forget ! 19 refl $ forget ! 21 refl $ forget ! 23 refl $ forget ! 25 refl $
+          move ! (25 ∷ 26 ∷ []) $ free1 ! $ move ! (23 ∷ 24 ∷ []) $ free1 ! $ move ! (21 ∷ 22 ∷ []) $ free1 ! $ move ! (19 ∷ 20 ∷ []) $ free1 ! $
+          move ! (17 ∷ 18 ∷ []) $ free1 ! $ move ! (15 ∷ 16 ∷ []) $ free1 ! $
+          move ! (13 ∷ 14 ∷ []) $ free1 ! $ move ! (11 ∷ 12 ∷ []) $ free1 ! $ move ! (9 ∷ 10 ∷ []) $ free1 ! $ move ! (7 ∷ 8 ∷ []) $ free1 ! $
+          move ! (5 ∷ 6 ∷ []) $ free1 ! $
           free0 ! $ keep ! (1 ∷ 4 ∷ 3 ∷ 2 ∷ 0 ∷ []) $ by ! (exits r (zs .1 .1 .1 .1 .0) (zs .1 .1 .1 .1 .1 .0) len₁ len₂ e)))))))))))))))))))
 
 module _ {M : Type 1} (𝓤 : URA M) (H : Heap 𝓤) (A : Atoms 𝓤) (W : Given 𝓤 H A) (mem : Memory → SProp 𝓤) (run : Routine → Fun 𝓤) (𝓣 : Tables 𝓤 H) (known : Triple 𝓤 (𝓣 .C #plate-entries·node-entries) (Listing 𝓤 H A mem run)) where

@@ -31,7 +31,8 @@ returns-2 : tie.Need-returns-2
 returns-2 c =
     let s = c .before .before .before .before .before .args in (
       c .get4 .ensures .0
-          ∙ rw (c .before .get3 .ensures .0) (sym (cut-value-no (s .limit) (s .n) (now (s .w)) (s .i) (omega (arith, c .before .before .before .get .ensures .0)))),
+          ∙ rw (c .before .get3 .ensures .0)
+          (sym (cut-value-no (s .limit) (s .n) (now (s .w)) (s .i) (omega (arith, c .before .before .before .get .ensures .0)))),
       c .get4 .ensures .1,
     )
 

@@ -125,9 +125,12 @@ module _ {M : Type 1} (𝓤 : URA M) (H : Heap 𝓤) (A : Atoms 𝓤) (W : Given
     exits : ent 𝓤 (⋆ 𝓤 H A (‵ (fobs γ (codedHoleys T.the-row .code (heres T.the-row (after count)))) ∷ ‵ (fbor κ (Held T.the-row (length (after count)) b o γ)) ∷ ‵ (flft κ q) ∷ ‵ (flft κ′ q′) ∷ ‵ Rest ∷ [])) (Post vunit)
     exits =
         qed W (‵ (fobs γ (codedHoleys T.the-row .code (heres T.the-row (after count)))) ∷ ‵ (fbor κ (Held T.the-row (length (after count)) b o γ)) ∷ ‵ (flft κ q) ∷ ‵ (flft κ′ q′) ∷ ‵ Rest ∷ []) ∵
-        suffices ! _ (ends-at 𝓤 H A filling.ended stayed (filling.clauses 𝓤 H A mem run) W bound vunit tt (after count, (tt, (tt, (tt, tt)))) (filled-length (standing n ws) ys count (can .places), (tt, (tt, (tt, tt))))) $ says ! refl $
+        suffices ! _ (ends-at 𝓤 H A filling.ended stayed (filling.clauses 𝓤 H A mem run) W bound vunit tt (after count, (tt, (tt, (tt, tt)))) (filled-length (standing n ws) ys count (can .places), (tt, (tt, (tt, tt))))) $
+        says ! refl $
         nothing ! $ move ! (4 ∷ 0 ∷ []) $ join ! $ move ! (3 ∷ 0 ∷ []) $ join ! $ frame ! $
-        fjoin ! $ pureI ! (at-slice T.the-row (x (after count)) (vals .0)) (tt, (tt, tt)) (ap (λ (m : ℕ). sliceVal (b, o) m ∷ []) (sym (filled-length (standing n ws) ys count (can .places))), subst (Room T.the-row) (sym (filled-length (standing n ws) ys count (can .places))) room) $ fjoin ! $ fjoin ! $ frame ! $
+        fjoin ! $
+        pureI ! (at-slice T.the-row (x (after count)) (vals .0)) (tt, (tt, tt)) (ap (λ (m : ℕ). sliceVal (b, o) m ∷ []) (sym (filled-length (standing n ws) ys count (can .places))), subst (Room T.the-row) (sym (filled-length (standing n ws) ys count (can .places))) room) $
+        fjoin ! $ fjoin ! $ frame ! $
         feqI ! (List Val) (vunit ∷ []) (vunit ∷ []) refl $ done !
 
     -- what the callee's triple binds outside, and that the caller has what it asks
@@ -139,7 +142,8 @@ module _ {M : Type 1} (𝓤 : URA M) (H : Heap 𝓤) (A : Atoms 𝓤) (W : Given
         let r : Eight ws n = can .room (omega (arith, l)) in
         let m : i < n = omega (arith, l, can .few) in
         qed W (‵ (flft κ′ q′) ∷ ‵ Space ∷ []) ∵ says ! (r, m) $ nothing ! $ move ! (1 ∷ 0 ∷ []) $ join ! $ frame ! $
-        nothing ! $ owned ! usize (Is usize) (uint-makes 𝓤 H A W w64) i _ (refl, omega (arith, l, count-fits)) $ fjoin ! $ owned ! usize (Is usize) (uint-makes 𝓤 H A W w64) n _ (refl, n-fits) $ fjoin ! $ move ! (1 ∷ 0 ∷ []) $ fjoin ! $ done !
+        nothing ! $ owned ! usize (Is usize) (uint-makes 𝓤 H A W w64) i _ (refl, omega (arith, l, count-fits)) $ fjoin ! $
+        owned ! usize (Is usize) (uint-makes 𝓤 H A W w64) n _ (refl, n-fits) $ fjoin ! $ move ! (1 ∷ 0 ∷ []) $ fjoin ! $ done !
 
     -- of the callee's `ensured`, the clause alone
     said : (i : ℕ) (r : Node) → ent 𝓤 (ensured 𝓤 H A made.ended (made.clauses 𝓤 H A mem run) (κ′, tt) (work, (n, (i, tt))) tt r) (fact 𝓤 (r ≡ standing n ws i))
@@ -178,7 +182,8 @@ module _ {M : Type 1} (𝓤 : URA M) (H : Heap 𝓤) (A : Atoms 𝓤) (W : Given
           use2 W (raw (Made 𝓤 H A mem run .pre (to i))) (goes i small) $
           -- [what is asked; the work space; the list; _5 i; _6; _7; _8; _9; _1 list; _2 work; _3 n; _4 count; _0; the open borrow; obs; auth; the parameters'; …]
           calls-at ! (fmOf 𝓤 H (W .laws) 𝓣) (Made 𝓤 H A mem run) known (to i) (and-then ! (load ! (from ! (stop !)) (look ! 9 refl)) (and-then ! (load ! (from ! (stop !)) (look ! 10 refl)) (and-then ! (load ! (from ! (stop !)) (look ! 3 refl)) (no-more !)))) (λ v.
-          use1 W (later (some (λ (r : Node). ((‵ (flft κ′ q′) ⊛ ‵ ftrue) ⊛ ‵ (T.the-row .own r (v ∷ []))) ⊛ raw (ensured 𝓤 H A made.ended (made.clauses 𝓤 H A mem run) (κ′, tt) (work, (n, (i, tt))) tt r)))) (id⊢ 𝓤 _) $ await ! tt $ pick ! (λ r.
+          use1 W (later (some (λ (r : Node). ((‵ (flft κ′ q′) ⊛ ‵ ftrue) ⊛ ‵ (T.the-row .own r (v ∷ []))) ⊛ raw (ensured 𝓤 H A made.ended (made.clauses 𝓤 H A mem run) (κ′, tt) (work, (n, (i, tt))) tt r)))) (id⊢ 𝓤 _) $
+          await ! tt $ pick ! (λ r.
           split ! $ move ! (1 ∷ []) $ use1 W (raw (fact 𝓤 (r ≡ standing n ws i))) (said i r) $ heard ! (r ≡ standing n ws i) (λ e. split ! $ move ! (1 ∷ []) $
           -- [what the entry owns; the token; the work space; the list; _5; _6; _7; _8; _9; _1; …]
           peeks ! T.the-row (Is T.the-row) (shows 𝓤 H A T.the-row) r (v ∷ []) (λ is.
@@ -186,14 +191,16 @@ module _ {M : Type 1} (𝓤 : URA M) (H : Heap 𝓤) (A : Atoms 𝓤) (W : Given
           assigns ! (bin ! (load ! (from ! (stop !)) (look ! 4 refl)) (lit ! tt) (record { fits = bytes })) (from ! (stop !)) (init ! 7 refl (tt, record { fits = bytes })) $
           assigns ! (bin ! (load ! (from ! (fld ! refl (stop !))) (look-in ! 9 (sub ! 0 refl (whole !)))) (load ! (from ! (stop !)) (look ! 7 refl)) tt) (from ! (stop !)) (init ! 8 refl (tt, tt)) $
           rewrite ! 8 (λ (p : ℕ). ‵ (fat fullShare tyPtr l₉ 0 (vptr b p))) (sym (place-is 16 o i)) refl $
-          move ! (3 ∷ []) $ elem-out ! T.the-row (Is T.the-row) (shows 𝓤 H A T.the-row) (LL.vals T.the-type T′.the-laws) (LL.tells T.the-type T′.the-laws) fullShare (after i) i none b o within (λ _.
+          move ! (3 ∷ []) $
+          elem-out ! T.the-row (Is T.the-row) (shows 𝓤 H A T.the-row) (LL.vals T.the-type T′.the-laws) (LL.tells T.the-type T′.the-laws) fullShare (after i) i none b o within (λ _.
           -- [list[i]; what it owns; the others; what the entry owns; the token; the work space; _5; _6; _7; _8; _9; …]
           assigns ! (of-opd ! (load ! (from ! (stop !)) (look ! 8 refl))) (from ! (hop ! (look ! 10 refl) (stop !))) (store-raw ! 0 refl (LL.lawful T.the-type T′.the-laws 𝓤 H A W .typed r _ is .0)) $
           move ! (1 ∷ []) $ drop ! $ move ! (0 ∷ 2 ∷ 1 ∷ []) $ elem-put ! T.the-row fullShare (after i) i r (v ∷ []) b o within $
           rewrite ! 0 (λ (l : List Node). ‵ (row T.the-row fullShare l b o)) (filled-more (standing n ws) ys i r in-list e) refl $
           assigns-last ! (bin ! (load ! (from ! (stop !)) (look ! 3 refl)) (lit ! tt) (record { fits = next-fits })) (from ! (stop !)) (store ! 3 refl (tt, record { fits = next-fits })) $
           forget ! 4 refl $ forget ! 5 refl $ forget ! 6 refl $ forget ! 7 refl $ move ! (1 ∷ []) $ split ! $
-          keep ! (2 ∷ 4 ∷ 5 ∷ 6 ∷ 7 ∷ 8 ∷ 9 ∷ 10 ∷ 11 ∷ 12 ∷ 13 ∷ 14 ∷ 15 ∷ 16 ∷ 0 ∷ 3 ∷ 17 ∷ 18 ∷ 19 ∷ 20 ∷ 21 ∷ 22 ∷ 23 ∷ 24 ∷ 25 ∷ 26 ∷ 27 ∷ []) $ by ! k)))))
+          keep ! (2 ∷ 4 ∷ 5 ∷ 6 ∷ 7 ∷ 8 ∷ 9 ∷ 10 ∷ 11 ∷ 12 ∷ 13 ∷ 14 ∷ 15 ∷ 16 ∷ 0 ∷ 3 ∷ 17 ∷ 18 ∷ 19 ∷ 20 ∷ 21 ∷ 22 ∷ 23 ∷ 24 ∷ 25 ∷ 26 ∷ 27 ∷ []) $
+          by ! k)))))
 
       -- the turn that leaves the loop, and the rest of the body: the borrow is closed at the list that is filled
       ends : (X : SProp 𝓤) → ent 𝓤 (⋆ 𝓤 H A (At count)) (Wp 𝓤 H (𝓣 .C) (𝓣 .Λ) En parts.turn-1 (afterTurn 𝓤 H X Left))
@@ -206,9 +213,12 @@ module _ {M : Type 1} (𝓤 : URA M) (H : Heap 𝓤) (A : Atoms 𝓤) (W : Given
           assigns ! (of-opd ! (unit-lit !)) (from ! (stop !)) (init ! 10 refl (tt, tt)) $
           move ! (0 ∷ 11 ∷ 12 ∷ 13 ∷ []) $ closes-slice ! tt T.the-row ys (after count) (filled-length (standing n ws) ys count (can .places)) b o $
           -- [obs; the borrow; the token; _5; _6; _7; _8; _9; _1; _2; _3; _4; _0; the work space's token; the work space; the parameters'; and that each local dies]
-          returns ! (look ! 12 refl) $ forget ! 3 refl $ forget ! 4 refl $ forget ! 8 refl $ forget ! 9 refl $ forget ! 10 refl $ forget ! 11 refl $ forget ! 12 refl $
-          move ! (12 ∷ 16 ∷ []) $ free1 ! $ move ! (8 ∷ 15 ∷ []) $ free1 ! $ move ! (8 ∷ 14 ∷ []) $ free1 ! $ move ! (8 ∷ 13 ∷ []) $ free1 ! $ move ! (8 ∷ 12 ∷ []) $ free1 ! $
-          move ! (3 ∷ 11 ∷ []) $ free1 ! $ move ! (3 ∷ 10 ∷ []) $ free1 ! $ move ! (3 ∷ 9 ∷ []) $ free1 ! $ move ! (3 ∷ 8 ∷ []) $ free1 ! $ move ! (3 ∷ 7 ∷ []) $ free1 ! $ free0 ! $
+          returns ! (look ! 12 refl) $ forget ! 3 refl $ forget ! 4 refl $ forget ! 8 refl $ forget ! 9 refl $ forget ! 10 refl $ forget ! 11 refl $
+          forget ! 12 refl $
+          move ! (12 ∷ 16 ∷ []) $ free1 ! $ move ! (8 ∷ 15 ∷ []) $ free1 ! $ move ! (8 ∷ 14 ∷ []) $ free1 ! $ move ! (8 ∷ 13 ∷ []) $ free1 ! $
+          move ! (8 ∷ 12 ∷ []) $ free1 ! $
+          move ! (3 ∷ 11 ∷ []) $ free1 ! $ move ! (3 ∷ 10 ∷ []) $ free1 ! $ move ! (3 ∷ 9 ∷ []) $ free1 ! $ move ! (3 ∷ 8 ∷ []) $ free1 ! $
+          move ! (3 ∷ 7 ∷ []) $ free1 ! $ free0 ! $
           keep ! (0 ∷ 1 ∷ 2 ∷ 3 ∷ 5 ∷ []) $ by ! exits
 
       -- the invariant, where t entries are left to write
@@ -231,7 +241,8 @@ module _ {M : Type 1} (𝓤 : URA M) (H : Heap 𝓤) (A : Atoms 𝓤) (W : Given
       repeats : ent 𝓤 (⋆ 𝓤 H A (At 0)) (Wp 𝓤 H (𝓣 .C) (𝓣 .Λ) En (loop parts.turn-1) Left)
       repeats =
           subst (λ (j : ℕ). ent 𝓤 (⋆ 𝓤 H A (At j)) (Wp 𝓤 H (𝓣 .C) (𝓣 .Λ) En (loop parts.turn-1) Left)) (omega arith)
-          (qed W (At (count - count)) ∵ fltI ! count (count + 1) (omega arith) $ by ! (loop-rule 𝓤 H (W .laws) 𝓣 _<_ (Nat·lt-wfRel .wf) En parts.turn-1 Left (λ (t : ℕ). ⋆ 𝓤 H A (Inv t)) turns count))
+          (qed W (At (count - count)) ∵ fltI ! count (count + 1) (omega arith) $
+          by ! (loop-rule 𝓤 H (W .laws) 𝓣 _<_ (Nat·lt-wfRel .wf) En parts.turn-1 Left (λ (t : ℕ). ⋆ 𝓤 H A (Inv t)) turns count))
 
     -- the MIR, up to the loop
     walk : (𝓣 : Tables 𝓤 H) → Triple 𝓤 (𝓣 .C #plate-entries·standing) (Made 𝓤 H A mem run)
@@ -239,7 +250,8 @@ module _ {M : Type 1} (𝓤 : URA M) (H : Heap 𝓤) (A : Atoms 𝓤) (W : Given
     walk 𝓣 known =
         qed W ((‵ (flft κ q) ⊛ (‵ (flft κ′ q′) ⊛ ‵ ftrue)) ∷ ‵ (owns (MutSlice (named 0) κ T.the-row ∷ ShrSlice (named 1) κ′ u32 ∷ usize ∷ usize ∷ []) a vals) ∷ []) ∵
         enter ! (𝓣 .C) (𝓣 .Λ) code.function (s ∷ s′ ∷ vint w64 n ∷ vint w64 count ∷ []) _ $
-        alloc1 ! (λ l₀. alloc1 ! (λ l₁. alloc1 ! (λ l₂. alloc1 ! (λ l₃. alloc1 ! (λ l₄. alloc1 ! (λ l₅. alloc1 ! (λ l₆. alloc1 ! (λ l₇. alloc1 ! (λ l₈. alloc1 ! (λ l₉. alloc0 ! $ params1 ! $
+        alloc1 ! (λ l₀. alloc1 ! (λ l₁. alloc1 ! (λ l₂. alloc1 ! (λ l₃. alloc1 ! (λ l₄. alloc1 ! (λ l₅. alloc1 ! (λ l₆. alloc1 ! (λ l₇. alloc1 ! (λ l₈. alloc1 ! (λ l₉. alloc0 ! $
+        params1 ! $
         pass1 ! (init ! 16 refl (tt, (tt, (record { fits = room .0 }, tt)))) $ pass1 ! (init ! 14 refl (tt, (tt, (record { fits = room′ .0 }, tt)))) $
         pass1 ! (init ! 12 refl (tt, record { fits = n-fits })) $ pass1 ! (init ! 10 refl (tt, record { fits = count-fits })) $ pass0 ! $
         assigns ! (of-opd ! (lit ! tt)) (from ! (stop !)) (init ! 8 refl (tt, record { fits = lit< tt })) $
@@ -247,9 +259,11 @@ module _ {M : Type 1} (𝓤 : URA M) (H : Heap 𝓤) (A : Atoms 𝓤) (W : Given
         move ! (21 ∷ []) $ fsplit ! $ fsplit ! $ move ! (1 ∷ []) $ fsplit ! $ move ! (24 ∷ []) $ split ! $ move ! (1 ∷ []) $ split ! $ move ! (3 ∷ 4 ∷ 2 ∷ []) $
         opens-slice ! tt T.the-row ys b o $
         -- [the list; the open borrow; obs; auth; the work space's token; true; list's fact; what the other parameters own; _9; …]
-        move ! (7 ∷ []) $ fsplit ! $ use1 W (‵ Space ⊛ ‵ Space) (shr-slice-copy 𝓤 H A W (named 1) κ′ u32 .twice work (s′ ∷ [])) $ split ! $ move ! (1 ∷ 2 ∷ []) $ fjoin ! $
+        move ! (7 ∷ []) $ fsplit ! $ use1 W (‵ Space ⊛ ‵ Space) (shr-slice-copy 𝓤 H A W (named 1) κ′ u32 .twice work (s′ ∷ [])) $ split ! $
+        move ! (1 ∷ 2 ∷ []) $ fjoin ! $
         rewrite ! 2 (λ (l : List Node). ‵ (row T.the-row fullShare l b o)) (sym (filled-none (standing n ws) ys)) refl $
-        keep ! (2 ∷ 17 ∷ 15 ∷ 13 ∷ 11 ∷ 9 ∷ 25 ∷ 23 ∷ 21 ∷ 19 ∷ 27 ∷ 3 ∷ 4 ∷ 5 ∷ 6 ∷ 1 ∷ 0 ∷ 28 ∷ 26 ∷ 24 ∷ 22 ∷ 20 ∷ 18 ∷ 16 ∷ 14 ∷ 12 ∷ 10 ∷ []) $ by ! (repeats 𝓣 known l₀ l₁ l₂ l₃ l₄ l₅ l₆ l₇ l₈ l₉)))))))))))
+        keep ! (2 ∷ 17 ∷ 15 ∷ 13 ∷ 11 ∷ 9 ∷ 25 ∷ 23 ∷ 21 ∷ 19 ∷ 27 ∷ 3 ∷ 4 ∷ 5 ∷ 6 ∷ 1 ∷ 0 ∷ 28 ∷ 26 ∷ 24 ∷ 22 ∷ 20 ∷ 18 ∷ 16 ∷ 14 ∷ 12 ∷ 10 ∷ []) $
+        by ! (repeats 𝓣 known l₀ l₁ l₂ l₃ l₄ l₅ l₆ l₇ l₈ l₉)))))))))))
 
 module _ {M : Type 1} (𝓤 : URA M) (H : Heap 𝓤) (A : Atoms 𝓤) (W : Given 𝓤 H A) (mem : Memory → SProp 𝓤) (run : Routine → Fun 𝓤) (𝓣 : Tables 𝓤 H) (known : Triple 𝓤 (𝓣 .C #plate-entries·standing) (Made 𝓤 H A mem run)) where
   fill-walks : Walks 𝓤 H A filling.ended stayed (WpFn 𝓤 H (𝓣 .C) (𝓣 .Λ) code.function) (filling.clauses 𝓤 H A mem run)

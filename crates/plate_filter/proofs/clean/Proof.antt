@@ -42,7 +42,8 @@ deliver-requires : tie.Need-deliver-requires
 deliver-requires c κs =
     let t = c .before .before .before .before in
     let z = sized (t .before .before .before .before .before .before) in (
-      cut-writable (t .before .before .before .before .plate-tree .ensures) (limit-fits (t .before .before .before .before .before .before)) (t .cut-values .ensures),
+      cut-writable (t .before .before .before .before .plate-tree .ensures) (limit-fits (t .before .before .before .before .before .before))
+          (t .cut-values .ensures),
       omega (arith, z .room, z .taken .long),
     )
 
@@ -58,7 +59,7 @@ returns-2 c =
     let t = d .before .before .before .before .before in
     let p = t .before .before .before .before in
     let e = p .before .before in
-    answered (e .before .clean-refusal .ensures) (e .if1 .left) (sized e .taken .long)
+    answered (e .before .clean-refusal .ensures) (e .if1 .left) (p .plate-tree .ensures .plate)
     (frame-trans (p .plate-tree .ensures .frame) (t .cut-values .ensures .valued .frame))
     (d .deliver .ensures)
     (cut-answer (p .plate-tree .ensures) (limit-fits e) (t .cut-values .ensures))

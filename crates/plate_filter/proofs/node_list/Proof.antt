@@ -62,7 +62,8 @@ returns-2 c =
     let e = d .before .before .before .before .before .before .before in
     let l = e .before .before .before .before in
     let m = l .before .before in
-    listed-done (lent (m .before .before .before .before .before .before .before)) (rw (m .shortest .ensures) at (l .start-list .ensures)) (e .if1 .left) (d .write-nodes .ensures) (c .before .before .clear .ensures)
+    listed-done (lent (m .before .before .before .before .before .before .before)) (rw (m .shortest .ensures) at (l .start-list .ensures))
+    (e .if1 .left) (d .write-nodes .ensures) (c .before .before .clear .ensures)
 
 pub node-list-spec : {M : Type 1} → statement M
 node-list-spec =

@@ -52,7 +52,7 @@ returns-2 c =
     let t = d .before .before .before .before .before in
     let p = t .before .before .before .before in
     let e = p .before .before in
-    answered (e .before .maxima-refusal .ensures) (e .if1 .left) (sized e .taken .long)
+    answered (e .before .maxima-refusal .ensures) (e .if1 .left) (p .plate-tree .ensures .plate)
     (frame-trans (p .plate-tree .ensures .frame) (t .mark-leaves .ensures .valued .frame))
     (d .deliver .ensures)
     (mark-answer (p .plate-tree .ensures) (t .mark-leaves .ensures))

@@ -31,7 +31,9 @@ returns-2 c =
     let s = c .before .before .before .args in
     let t = taken (c .before) in
     rw (t .long) at (c .space-refusal .ensures)
-    ∙ sym (plate-later (s .connectivity) (s .width) (s .height) (s .plate) (outRefusal (s .width * s .height) (s .out) (workRefusal (s .width) (s .height) (s .work) 0)) t)
+    ∙ sym
+    (plate-later (s .connectivity) (s .width) (s .height) (s .plate)
+    (outRefusal (s .width * s .height) (s .out) (workRefusal (s .width) (s .height) (s .work) 0)) t)
 
 pub maxima-refusal-spec : {M : Type 1} → statement M
 maxima-refusal-spec =

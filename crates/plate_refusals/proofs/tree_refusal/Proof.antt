@@ -19,7 +19,8 @@ taken c =
 returns : tie.Need-returns
 returns c =
     let s = c .before .before .args in
-    decided (s .connectivity) (s .width) (s .height) (s .plate) (c .before .plate-refusal .ensures) (workRefusal (s .width) (s .height) (s .work) 0) (c .if1 .taken)
+    decided (s .connectivity) (s .width) (s .height) (s .plate) (c .before .plate-refusal .ensures)
+    (workRefusal (s .width) (s .height) (s .work) 0) (c .if1 .taken)
 
 mul-if2 : tie.Need-mul-if2
 mul-if2 c = omega (arith, taken-few (taken c))
@@ -28,13 +29,21 @@ returns-2 : tie.Need-returns-2
 returns-2 c =
     let s = c .before .before .before .args in
     let t = taken (c .before) in
-    rw (plate-later (s .connectivity) (s .width) (s .height) (s .plate) (workRefusal (s .width) (s .height) (s .work) 0) t, ← t .long, lt-ltb (s .work) (8 * s .plate) (c .if2 .taken))
+    rw (
+      plate-later (s .connectivity) (s .width) (s .height) (s .plate) (workRefusal (s .width) (s .height) (s .work) 0) t,
+      ← t .long,
+      lt-ltb (s .work) (8 * s .plate) (c .if2 .taken),
+    )
 
 returns-3 : tie.Need-returns-3
 returns-3 c =
     let s = c .before .before .before .args in
     let t = taken (c .before) in
-    rw (plate-later (s .connectivity) (s .width) (s .height) (s .plate) (workRefusal (s .width) (s .height) (s .work) 0) t, ← t .long, le-ltb (s .work) (8 * s .plate) (c .if2 .left))
+    rw (
+      plate-later (s .connectivity) (s .width) (s .height) (s .plate) (workRefusal (s .width) (s .height) (s .work) 0) t,
+      ← t .long,
+      le-ltb (s .work) (8 * s .plate) (c .if2 .left),
+    )
 
 pub tree-refusal-spec : {M : Type 1} → statement M
 tree-refusal-spec = tie.close (tie.spec plate-refusal-requires returns mul-if2 returns-2 returns-3)

@@ -2,36 +2,45 @@
 use borrow.Author.Needs.{needs}
 use Rattle.record.proofs.cut_record.Statement.{statement}
 use Rattle.record.proofs.cut_record.Tie as tie
-use Prim.Native.Nat.{ℕ}
 use native.Mathlib.Omega.{arith}
+use mathlib.Core.List.{List}
+use Prim.Native.Nat.{ℕ}
 use denote.Ref.{now}
 use lib.ListN.{length}
 use Rattle.record_parse.specs.Parse.{readOf}
 use Rattle.record_tree.proofs.Finding.{TreeFound, tree-found, found-clearable}
 use Rattle.work_columns.proofs.Columns.{frame-room}
-use Rattle.record.proofs.Refused.{cut-stopped, cut-refused}
+use Rattle.record.proofs.Refused.{Stopped, stopped, cut-stopped, cut-refused}
 use Rattle.record.proofs.Done.{tree-few, tree-room, tree-stands, cut-fits, cut-done}
 
--- the plate of the record: width, height, connectivity, the number of nodes
-abbrev wide : tie.After-known-told → ℕ
-wide c = c .before .f .given .0 .0
+-- ---- what stands at each place
+abbrev start : tie.After-read-tree → tie.Start
+start c = c .before .before .before .before .before
 
-abbrev high : tie.After-known-told → ℕ
-high c = c .before .f .given .0 .1 .0
-
-abbrev kind : tie.After-known-told → ℕ
-kind c = c .before .f .given .0 .1 .1 .0
-
-abbrev count : tie.After-known-told → ℕ
-count c = c .before .f .given .0 .1 .1 .1 .0
-
-abbrev start : tie.After-known-told → tie.Start
-start c = c .before .before .before .before .before .before .before .before .before .before
-
--- its tree stands in the work space
-there : (c : tie.After-known-told) → let s = start c .args in
-    TreeFound (readOf (now (s .bytes)) (length (now (s .work)))) (wide c) (high c) (kind c) (now (s .work)) (c .before .before .before .before .before .read-tree .last .1 .0) (count c)
+-- the width, height and connectivity of the record's plate, and the number of its nodes; its tree stands in the work space
+there : (c : tie.After-known-told) → let t = c .before .before .before .before .before in let g = c .before .f .given .0 in let s = start t .args in
+    TreeFound (readOf (now (s .bytes)) (length (now (s .work)))) (g .0) (g .1 .0) (g .1 .1 .0) (now (s .work)) (t .read-tree .last .1 .0) (g .1 .1 .1 .0)
 there c = tree-found (c .before .before .before .before .before .read-tree .ensures) (c .before .f .given .1)
+
+-- the record is refused up to 24
+abbrev asked : tie.After-give-up → tie.After-read-tree
+asked c = c .before .before .before .before .before
+
+refused : (c : tie.After-give-up) → let t = asked c in let s = start t .args in
+    Stopped (readOf (now (s .bytes)) (length (now (s .work)))) (now (s .work)) (c .give-up .last .1 .0) (c .give-up .result)
+refused c =
+    let t = asked c .read-tree in
+    stopped (t .result) (t .ensures) (c .before .before .match .keys2) (c .give-up .ensures .0) (c .give-up .ensures .1)
+
+abbrev lent : tie.After-known-told → List ℕ
+lent c = now (start (c .before .before .before .before .before) .args .out)
+
+-- the cut is written
+abbrev cut : tie.After-clear2 → tie.After-cut-plate
+cut c = c .before .before .before .before .before .before
+
+abbrev fits : tie.After-cut-plate → tie.Else1
+fits c = c .before .before .before
 
 read-tree-requires : tie.Need-read-tree-requires
 read-tree-requires c κs = search needs
@@ -40,7 +49,9 @@ enum-known-f : tie.Need-enum-known-f
 enum-known-f c = search needs
 
 give-up-requires : tie.Need-give-up-requires
-give-up-requires c κs = found-clearable (c .before .before .before .before .read-tree .ensures)
+give-up-requires c κs =
+    let t = c .before .before .before .before .read-tree in
+    found-clearable (t .result) (t .ensures)
 
 refused-head-requires : tie.Need-refused-head-requires
 refused-head-requires c κs = search needs
@@ -50,9 +61,9 @@ same-length c = search needs
 
 returns : tie.Need-returns
 returns c =
-    let s = c .before .before .before .before .before .before .before .before .before .before .before .before .before .args in
-    rw (c .refused-head .ensures)
-    (cut-stopped (s .limit) (now (s .out)) (c .before .before .before .before .before .before .before .before .read-tree .ensures) (c .before .before .before .before .before .match .keys2) (c .before .before .before .give-up .ensures .0) (c .before .before .before .give-up .ensures .1))
+    let g = c .before .before .before in
+    let s = start (asked g) .args in
+    rw (c .refused-head .ensures) (cut-stopped (s .limit) (now (s .out)) (refused g))
 
 mul-n : tie.Need-mul-n
 mul-n c = omega (arith, tree-few (there c))
@@ -74,16 +85,21 @@ same-length-2 c = search needs
 
 returns-2 : tie.Need-returns-2
 returns-2 c =
-    let t = there (c .before .before .before .before .before .before .before) in
-    rw (c .refused-head2 .ensures) (cut-refused (t .is) (t .frame) (c .before .before .before .before .before .before .cut-refusal .ensures) (c .before .before .before .before .before .if1 .taken) (c .before .before .before .clear .ensures))
+    let d = c .before .before .before in
+    let e = d .before .before in
+    let t = there (e .before .before) in
+    rw (c .refused-head2 .ensures) (cut-refused (t .is) (t .frame) (e .before .cut-refusal .ensures) (e .if1 .taken) (d .clear .ensures))
 
 cut-plate-requires : tie.Need-cut-plate-requires
 cut-plate-requires c κs =
-    let b = c .before .before .before .before in
-    (tree-stands (there b), cut-fits (there b) (now (start b .args .out)) (c .before .before .before .cut-refusal .ensures) (c .before .before .if1 .left))
+    let e = c .before .before in
+    let b = e .before .before in
+    (tree-stands (there b), cut-fits (there b) (lent b) (e .before .cut-refusal .ensures) (e .if1 .left))
 
 clear-requires-2 : tie.Need-clear-requires-2
-clear-requires-2 c κs = frame-room (tree-room (there (c .before .before .before .before .before .before .before .before .before .before))) (c .before .before .before .before .before .cut-plate .ensures .frame)
+clear-requires-2 c κs =
+    let d = c .before .before .before .before .before in
+    frame-room (tree-room (there (fits d .before .before))) (d .cut-plate .ensures .frame)
 
 same-length-3 : tie.Need-same-length-3
 same-length-3 c = search needs
@@ -93,8 +109,10 @@ same-length-4 c = search needs
 
 returns-3 : tie.Need-returns-3
 returns-3 c =
-    let b = c .before .before .before .before .before .before .before .before .before .before .before .before .before in
-    cut-done (there b) (now (start b .args .out)) (c .before .before .before .before .before .before .before .before .before .before .before .before .cut-refusal .ensures) (c .before .before .before .before .before .before .before .before .before .before .before .if1 .left) (c .before .before .before .before .before .before .before .before .cut-plate .ensures) (c .before .before .clear2 .ensures)
+    let d = c .before .before in
+    let e = fits (cut d) in
+    let b = e .before .before in
+    cut-done (there b) (lent b) (e .before .cut-refusal .ensures) (e .if1 .left) (cut d .cut-plate .ensures) (d .clear2 .ensures)
 
 pub cut-record-spec : {M : Type 1} → statement M
 cut-record-spec =

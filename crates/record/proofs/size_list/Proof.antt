@@ -2,36 +2,49 @@
 use borrow.Author.Needs.{needs}
 use Rattle.record.proofs.size_list.Statement.{statement}
 use Rattle.record.proofs.size_list.Tie as tie
-use mathlib.Core.Path.{sym, _∙_}
-use Prim.Native.Nat.{ℕ}
+use mathlib.Core.Path.{_≡_, sym, _∙_}
+use mathlib.Core.Bool.{false, _||_}
+use Prim.Native.Nat.{_-_, _*_}
+use lib.Dec.{ltb}
 use native.Mathlib.Omega.{arith}
 use denote.Ref.{now}
 use lib.ListN.{length}
 use Rattle.record_parse.specs.Parse.{readOf}
 use Rattle.record_tree.proofs.Finding.{TreeFound, tree-found, found-clearable}
-use Rattle.record.proofs.Refused.{sizes-stopped, sizes-short}
+use Rattle.record.proofs.Refused.{Stopped, stopped, sizes-stopped, sizes-short}
 use Rattle.record.proofs.Done.{tree-few, tree-some, tree-room, tree-stands, tree-nodes-few, sizes-fit, sizes-done}
 
--- the plate of the record: width, height, connectivity, the number of nodes
-abbrev wide : tie.After-known-told → ℕ
-wide c = c .before .f .given .0 .0
+-- ---- what stands at each place
+abbrev start : tie.After-read-tree → tie.Start
+start c = c .before .before .before .before .before .before
 
-abbrev high : tie.After-known-told → ℕ
-high c = c .before .f .given .0 .1 .0
-
-abbrev kind : tie.After-known-told → ℕ
-kind c = c .before .f .given .0 .1 .1 .0
-
-abbrev count : tie.After-known-told → ℕ
-count c = c .before .f .given .0 .1 .1 .1 .0
-
-abbrev start : tie.After-known-told → tie.Start
-start c = c .before .before .before .before .before .before .before .before .before .before .before
-
--- its tree stands in the work space
-there : (c : tie.After-known-told) → let s = start c .args in
-    TreeFound (readOf (now (s .bytes)) (length (now (s .work)))) (wide c) (high c) (kind c) (now (s .work)) (c .before .before .before .before .before .read-tree .last .1 .0) (count c)
+-- the width, height and connectivity of the record's plate, and the number of its nodes; its tree stands in the work space
+there : (c : tie.After-known-told) → let t = c .before .before .before .before .before in let g = c .before .f .given .0 in let s = start t .args in
+    TreeFound (readOf (now (s .bytes)) (length (now (s .work)))) (g .0) (g .1 .0) (g .1 .1 .0) (now (s .work)) (t .read-tree .last .1 .0) (g .1 .1 .1 .0)
 there c = tree-found (c .before .before .before .before .before .read-tree .ensures) (c .before .f .given .1)
+
+-- the record is refused up to 24
+abbrev asked : tie.After-give-up → tie.After-read-tree
+asked c = c .before .before .before .before .before
+
+refused : (c : tie.After-give-up) → let t = asked c in let s = start t .args in
+    Stopped (readOf (now (s .bytes)) (length (now (s .work)))) (now (s .work)) (c .give-up .last .1 .0) (c .give-up .result)
+refused c =
+    let t = asked c .read-tree in
+    stopped (t .result) (t .ensures) (c .before .before .match .keys2) (c .give-up .ensures .0) (c .give-up .ensures .1)
+
+-- the tables are written
+abbrev fits : tie.After-list-sizes → tie.Else1
+fits c = c .before .before .before .before
+
+abbrev listed : tie.After-darkest-of → tie.After-list-sizes
+listed c = c .before .before .before .before .before .before
+
+long-enough : (c : tie.Else1) →
+    let s = start (c .before .before .before .before .before .before .before) .args in
+    let g = c .before .before .before .f .given .0 in
+    (ltb (length (now (s .counts))) (g .0 * g .1 .0 - 1) || ltb (length (now (s .losses))) (g .0 * g .1 .0 - 1)) ≡ false
+long-enough c = sym (c .before .tables-short .ensures) ∙ c .if1 .left
 
 read-tree-requires : tie.Need-read-tree-requires
 read-tree-requires c κs = search needs
@@ -40,7 +53,9 @@ enum-known-f : tie.Need-enum-known-f
 enum-known-f c = search needs
 
 give-up-requires : tie.Need-give-up-requires
-give-up-requires c κs = found-clearable (c .before .before .before .before .read-tree .ensures)
+give-up-requires c κs =
+    let t = c .before .before .before .before .read-tree in
+    found-clearable (t .result) (t .ensures)
 
 refused-sizes-requires : tie.Need-refused-sizes-requires
 refused-sizes-requires c κs = search needs
@@ -50,9 +65,9 @@ same-length c = search needs
 
 returns : tie.Need-returns
 returns c =
-    let s = c .before .before .before .before .before .before .before .before .before .before .before .before .before .before .args in
-    rw (c .refused-sizes .ensures)
-    (sizes-stopped (now (s .counts)) (now (s .losses)) (c .before .before .before .before .before .before .before .before .read-tree .ensures) (c .before .before .before .before .before .match .keys2) (c .before .before .before .give-up .ensures .0) (c .before .before .before .give-up .ensures .1))
+    let g = c .before .before .before in
+    let s = start (asked g) .args in
+    rw (c .refused-sizes .ensures) (sizes-stopped (now (s .counts)) (now (s .losses)) (refused g))
 
 mul-n : tie.Need-mul-n
 mul-n c = omega (arith, tree-few (there c))
@@ -74,24 +89,27 @@ same-length-2 c = search needs
 
 returns-2 : tie.Need-returns-2
 returns-2 c =
-    let t = there (c .before .before .before .before .before .before .before) in
-    rw (c .refused-sizes2 .ensures) (sizes-short (t .is) (t .frame) (sym (c .before .before .before .before .before .before .tables-short .ensures) ∙ c .before .before .before .before .before .if1 .taken) (c .before .before .before .clear .ensures))
+    let d = c .before .before .before in
+    let e = d .before .before in
+    let t = there (e .before .before) in
+    rw (c .refused-sizes2 .ensures) (sizes-short (t .is) (t .frame) (sym (e .before .tables-short .ensures) ∙ e .if1 .taken) (d .clear .ensures))
 
 list-sizes-requires : tie.Need-list-sizes-requires
 list-sizes-requires c κs =
-    let b = c .before .before .before .before .before in
-    (tree-stands (there b), sizes-fit (there b) (sym (c .before .before .before .before .tables-short .ensures) ∙ c .before .before .before .if1 .left))
+    let e = c .before .before .before in
+    let t = there (e .before .before) in
+    (tree-stands t, sizes-fit t (long-enough e))
 
 darkest-of-requires : tie.Need-darkest-of-requires
 darkest-of-requires c κs =
-    let t = there (c .before .before .before .before .before .before .before .before .before .before .before) in
+    let t = there (fits (c .before .before .before .before .before) .before .before) in
     (tree-room t, tree-some t)
 
 clear-requires-2 : tie.Need-clear-requires-2
-clear-requires-2 c κs = tree-room (there (c .before .before .before .before .before .before .before .before .before .before .before .before .before))
+clear-requires-2 c κs = tree-room (there (fits (listed (c .before)) .before .before))
 
 cast-t17 : tie.Need-cast-t17
-cast-t17 c = omega (arith, tree-nodes-few (there (c .before .before .before .before .before .before .before .before .before .before .before .before .before .before .before .before)))
+cast-t17 c = omega (arith, tree-nodes-few (there (fits (listed (c .before .before .before .before)) .before .before)))
 
 same-length-3 : tie.Need-same-length-3
 same-length-3 c = search needs
@@ -104,8 +122,10 @@ same-length-5 c = search needs
 
 returns-3 : tie.Need-returns-3
 returns-3 c =
-    let b = c .before .before .before .before .before .before .before .before .before .before .before .before .before .before .before .before in
-    sizes-done (there b) (sym (c .before .before .before .before .before .before .before .before .before .before .before .before .before .before .before .tables-short .ensures) ∙ c .before .before .before .before .before .before .before .before .before .before .before .before .before .before .if1 .left) (c .before .before .before .before .before .before .before .before .before .before .list-sizes .ensures) (c .before .before .before .before .darkest-of .ensures) (c .before .before .clear2 .ensures)
+    let d = c .before .before in
+    let k = d .before .before in
+    let e = fits (listed k) in
+    sizes-done (there (e .before .before)) (long-enough e) (listed k .list-sizes .ensures) (k .darkest-of .ensures) (d .clear2 .ensures)
 
 pub size-list-spec : {M : Type 1} → statement M
 size-list-spec =

@@ -2,43 +2,76 @@
 use borrow.Author.Needs.{needs}
 use Rattle.record.proofs.write_record.Statement.{statement}
 use Rattle.record.proofs.write_record.Tie as tie
+use mathlib.Core.Path.{sym, _∙_}
 use denote.Ref.{now}
+use lib.ListN.{length}
 use native.Mathlib.Omega.{arith}
-use Rattle.record.proofs.Wrote.{wrote-refused, wrote-ready, wrote-here, wrote-short, wrote-done}
+use Rattle.plate_refusals.proofs.Refusals.{Listable, tree-none}
+use Rattle.record.proofs.Wrote.{TreeMade, wrote-refused, wrote-ready, wrote-here, wrote-short, wrote-done}
+
+-- ---- what stands at each place
+abbrev start : tie.After-tree-refusal → tie.Start
+start c = c .before .before .before .before
+
+-- nothing is refused ahead of the work
+listable : (c : tie.Else1) → let s = start (c .before) .args in
+    Listable (s .connectivity) (s .width) (s .height) (length (now (s .image))) (length (now (s .work)))
+listable c =
+    let s = start (c .before) .args in
+    tree-none (s .connectivity) (s .width) (s .height) (length (now (s .image))) (length (now (s .work)))
+    (sym (c .before .tree-refusal .ensures) ∙ c .if1 .left)
+
+-- the tree is made
+abbrev begun : tie.After-plate-tree → tie.Else1
+begun c = c .before .before
+
+grown : (c : tie.After-plate-tree) → let s = start (begun c .before) .args in
+    TreeMade (s .connectivity) (s .width) (s .height) (now (s .image)) (now (s .work)) (c .plate-tree .last .1 .1 .1 .1 .1 .0) (c .plate-tree .result)
+grown c = record { listable = listable (begun c); tree = c .plate-tree .ensures }
+
+-- the record is measured
+abbrev tree : tie.After-measure → tie.After-plate-tree
+tree c = c .before .before .before .before
 
 tree-refusal-requires : tie.Need-tree-refusal-requires
 tree-refusal-requires c κs = search needs
 
+refused-written-requires : tie.Need-refused-written-requires
+refused-written-requires c κs = search needs
+
 returns : tie.Need-returns
 returns c =
-    let s = c .before .before .before .before .before .args in
-    wrote-refused (s .connectivity) (s .width) (s .height) (now (s .image)) (now (s .out)) (now (s .work)) (c .before .tree-refusal .ensures) (c .if1 .taken)
+    let t = c .before in
+    let s = start (t .before) .args in
+    rw (c .refused-written .ensures)
+    (wrote-refused (s .connectivity) (s .width) (s .height) (now (s .image)) (now (s .out)) (now (s .work)) (t .before .tree-refusal .ensures) (t .if1 .taken))
 
 plate-tree-requires : tie.Need-plate-tree-requires
-plate-tree-requires c κs =
-    let s = c .before .before .before .before .before .before .args in
-    wrote-ready (s .connectivity) (s .width) (s .height) (now (s .image)) (now (s .out)) (now (s .work)) (c .before .before .tree-refusal .ensures) (c .before .if1 .left)
+plate-tree-requires c κs = wrote-ready (listable (c .before))
 
 measure-requires : tie.Need-measure-requires
-measure-requires c κs =
-    let s = c .before .before .before .before .before .before .before .before .before .before .args in
-    wrote-here (s .connectivity) (s .width) (s .height) (now (s .image)) (now (s .out)) (now (s .work)) (c .before .before .before .before .before .before .tree-refusal .ensures) (c .before .before .before .before .before .if1 .left) (c .before .before .before .plate-tree .ensures)
+measure-requires c κs = wrote-here (grown (c .before .before .before))
 
 clear-requires : tie.Need-clear-requires
 clear-requires c κs = search needs
+
+refused-written-requires-2 : tie.Need-refused-written-requires-2
+refused-written-requires-2 c κs = search needs
 
 same-length : tie.Need-same-length
 same-length c = search needs
 
 returns-2 : tie.Need-returns-2
 returns-2 c =
-    let s = c .before .before .before .before .before .before .before .before .before .before .before .before .before .before .before .before .args in
-    wrote-short (s .connectivity) (s .width) (s .height) (now (s .image)) (now (s .out)) (now (s .work)) (c .before .before .before .before .before .before .before .before .before .before .before .before .tree-refusal .ensures) (c .before .before .before .before .before .before .before .before .before .before .before .if1 .left) (c .before .before .before .before .before .before .before .before .before .plate-tree .ensures) (c .before .before .before .before .before .measure .ensures) (c .before .before .before .before .if2 .taken) (c .before .before .clear .ensures)
+    let d = c .before .before .before in
+    let t = d .before .before in
+    let m = t .before in
+    rw (c .refused-written2 .ensures) (wrote-short (grown (tree m)) (m .measure .ensures) (d .clear .ensures) (t .if2 .taken))
 
 write-requires : tie.Need-write-requires
 write-requires c κs =
-    let s = c .before .before .before .before .before .before .before .before .before .before .before .before .before .before .args in
-    (wrote-here (s .connectivity) (s .width) (s .height) (now (s .image)) (now (s .out)) (now (s .work)) (c .before .before .before .before .before .before .before .before .before .before .tree-refusal .ensures) (c .before .before .before .before .before .before .before .before .before .if1 .left) (c .before .before .before .before .before .before .before .plate-tree .ensures), omega (arith, c .before .before .before .measure .ensures, c .before .before .if2 .left))
+    let e = c .before .before in
+    (wrote-here (grown (tree (e .before))), omega (arith, e .before .measure .ensures, e .if2 .left))
 
 clear-requires-2 : tie.Need-clear-requires-2
 clear-requires-2 c κs = search needs
@@ -51,18 +84,23 @@ same-length-3 c = search needs
 
 returns-3 : tie.Need-returns-3
 returns-3 c =
-    let s = c .before .before .before .before .before .before .before .before .before .before .before .before .before .before .before .before .before .before .before .before .before .args in
-    wrote-done (s .connectivity) (s .width) (s .height) (now (s .image)) (now (s .out)) (now (s .work)) (c .before .before .before .before .before .before .before .before .before .before .before .before .before .before .before .before .before .tree-refusal .ensures) (c .before .before .before .before .before .before .before .before .before .before .before .before .before .before .before .before .if1 .left) (c .before .before .before .before .before .before .before .before .before .before .before .before .before .before .plate-tree .ensures) (c .before .before .before .before .before .before .before .before .before .before .measure .ensures) (c .before .before .before .before .before .before .before .before .before .if2 .left) (c .before .before .before .before .before .before .write .ensures) (c .before .before .clear2 .ensures)
+    let d = c .before .before in
+    let o = d .before .before .before .before in
+    let e = o .before .before .before in
+    let m = e .before in
+    wrote-done (grown (tree m)) (m .measure .ensures) (d .clear2 .ensures) (e .if2 .left) (o .write .ensures)
 
 pub write-record-spec : {M : Type 1} → statement M
 write-record-spec =
     tie.close
     (tie.spec
     tree-refusal-requires
+    refused-written-requires
     returns
     plate-tree-requires
     measure-requires
     clear-requires
+    refused-written-requires-2
     same-length
     returns-2
     write-requires

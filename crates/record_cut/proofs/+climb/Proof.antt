@@ -46,7 +46,8 @@ module _ (t : ℕ) where
   returns-2 : climb-lts.Need-returns-2 (calls t) (climb-at t) climb.Post
   returns-2 c =
       let s = c .before .before .before in
-      too-small {i = s .before .before .args .i} (omega (arith, c .before .before .if1 .left, s .get .ensures .0)) (rw (c .before .get2 .ensures .0) at (c .climb .ensures))
+      too-small {i = s .before .before .args .i} (omega (arith, c .before .before .if1 .left, s .get .ensures .0))
+      (rw (c .before .get2 .ensures .0) at (c .climb .ensures))
 
 pub +climb-spec : {M : Type 1} → statement M
 +climb-spec =

@@ -1,8 +1,7 @@
 -- `record_cut::count_areas` meets its contract. The invariant: the nodes before j are counted.
-use mathlib.Core.Path.{refl, _∙_}
+use mathlib.Core.Path.{refl}
 use Prim.Native.Nat.{ℕ, _-_}
 use native.Mathlib.Omega.{arith}
-use denote.Ref.{now}
 use Rattle.record_cut.proofs.count_areas.Statement.{statement}
 use Rattle.record_cut.proofs.count_areas.Tie as tie
 use Rattle.record_cut.proofs.Listing.{Tallying, tallying-done, tallying-first, tallying-low, tallying-more, tallying-place}
@@ -11,33 +10,24 @@ abbrev one : ℕ → ℕ
 one j = 1
 
 abbrev Inv-loop : tie.InvT-loop
-Inv-loop w n count counts₀ end j₀ counts j = Tallying n count w one counts₀ counts j
+Inv-loop w n count counts₀ j₀ counts j = Tallying n count w one counts₀ counts j
 
 abbrev μ-loop : tie.MeasureT-loop
-μ-loop w n count counts₀ end j₀ counts j = count - j
-
-sub-end : tie.Need-sub-end Inv-loop μ-loop
-sub-end c = let can = c .before .before .pre .0 in omega (arith, can .some-nodes, can .few)
-
-clear-counts-requires : tie.Need-clear-counts-requires Inv-loop μ-loop
-clear-counts-requires c κs = omega arith
+μ-loop w n count counts₀ j₀ counts j = count - j
 
 loop-holds : tie.Need-loop-holds Inv-loop μ-loop
-loop-holds c =
-    let b = c .before .before in
-    let s = b .before .before .before .before in
-    tallying-first (s .pre .0) one (now (s .args .counts)) (b .clear-counts .ensures)
+loop-holds c = let s = c .before .before in tallying-first (s .pre .0) one (s .pre .1 .1)
 
 get-requires : tie.Need-get-requires Inv-loop μ-loop
 get-requires c κs =
     let l = c .before in
-    let can = l .before .before .before .before .before .before .before .pre .0 in
+    let can = l .before .before .before .pre .0 in
     (can .room, (omega arith, can .inner (l .loop .j) (l .loop .inv .first) (c .loop-test .taken) .inside))
 
 sub-place : tie.Need-sub-place Inv-loop μ-loop
 sub-place c =
     let l = c .before .before in
-    let can = l .before .before .before .before .before .before .before .pre .0 in
+    let can = l .before .before .before .pre .0 in
     omega (arith, tallying-place can one (l .loop .inv) (c .before .loop-test .taken) (c .get .ensures .0))
 
 mul-counts : tie.Need-mul-counts Inv-loop μ-loop
@@ -46,14 +36,14 @@ mul-counts c = omega arith
 slice-read-counts : tie.Need-slice-read-counts Inv-loop μ-loop
 slice-read-counts c =
     let l = c .before .before .before in
-    let k = l .before .before .before in
-    let s = k .before .before .before .before in
-    omega (arith, tallying-place (s .pre .0) one (l .loop .inv) (c .before .before .loop-test .taken) (c .before .get .ensures .0), l .loop .inv .len, k .clear-counts .kept .0)
+    let s = l .before .before .before in
+    let place = tallying-place (s .pre .0) one (l .loop .inv) (c .before .before .loop-test .taken) (c .before .get .ensures .0) in
+    omega (arith, place, l .loop .inv .len, s .pre .1 .0)
 
 add-counts : tie.Need-add-counts Inv-loop μ-loop
 add-counts c =
     let l = c .before .before .before in
-    let can = l .before .before .before .before .before .before .before .pre .0 in
+    let can = l .before .before .before .pre .0 in
     omega (
       arith,
       tallying-low can one (l .loop .inv) (c .before .before .loop-test .taken) (c .before .get .ensures .0) 1 (λ i h m. omega arith),
@@ -68,7 +58,7 @@ slice-write-counts c = slice-read-counts c
 add-j : tie.Need-add-j Inv-loop μ-loop
 add-j c =
     let l = c .before .before .before in
-    let can = l .before .before .before .before .before .before .before .pre .0 in
+    let can = l .before .before .before .pre .0 in
     omega (arith, can .few, can .room .small, c .before .before .loop-test .taken)
 
 loop-less : tie.Need-loop-less Inv-loop μ-loop
@@ -77,17 +67,14 @@ loop-less c = omega (arith, c .before .before .loop-test .taken)
 loop-again : tie.Need-loop-again Inv-loop μ-loop
 loop-again c =
     let l = c .before .before .before in
-    let can = l .before .before .before .before .before .before .before .pre .0 in
+    let can = l .before .before .before .pre .0 in
     tallying-more can one (l .loop .inv) (c .before .before .loop-test .taken) (c .before .get .ensures .0) _ refl
 
 same-length : tie.Need-same-length Inv-loop μ-loop
-same-length c = c .before .loop .inv .len ∙ c .before .before .before .before .clear-counts .kept .0
+same-length c = c .before .loop .inv .len
 
 returns : tie.Need-returns Inv-loop μ-loop
-returns c =
-    let b = c .before .before .before .before in
-    let s = b .before .before .before .before in
-    tallying-done (s .pre .0) one (now (s .args .counts)) (b .clear-counts .ensures) (c .before .loop .inv) (c .loop-test .left)
+returns c = tallying-done (c .before .before .before .before .pre .0) one (c .before .loop .inv) (c .loop-test .left)
 
 pub count-areas-spec : {M : Type 1} → statement M
 count-areas-spec =
@@ -95,8 +82,6 @@ count-areas-spec =
     (tie.spec
     Inv-loop
     μ-loop
-    sub-end
-    clear-counts-requires
     loop-holds
     get-requires
     sub-place

@@ -22,7 +22,10 @@ sub-result : tie.Need-sub-result
 sub-result c =
     let s = c .before .before .before .before .before in
     let b = c .before .before in
-    omega (arith, below-low (s .args .n) (now (s .args .w)) (s .args .j) (b .before .get .ensures .0) (b .get2 .ensures .0) (c .before .get3 .ensures .0) (c .get4 .ensures .0) (s .pre .1))
+    let low =
+    below-low (s .args .n) (now (s .args .w)) (s .args .j) (b .before .get .ensures .0) (b .get2 .ensures .0) (c .before .get3 .ensures .0)
+    (c .get4 .ensures .0) (s .pre .1) in
+    omega (arith, low)
 
 mul-result : tie.Need-mul-result
 mul-result c =
@@ -30,7 +33,8 @@ mul-result c =
     let b = c .before .before in
     omega (
       arith,
-      loss-is (s .args .n) (now (s .args .w)) (s .args .j) (b .before .get .ensures .0) (b .get2 .ensures .0) (c .before .get3 .ensures .0) (c .get4 .ensures .0),
+      loss-is (s .args .n) (now (s .args .w)) (s .args .j) (b .before .get .ensures .0) (b .get2 .ensures .0) (c .before .get3 .ensures .0)
+          (c .get4 .ensures .0),
       loss-low (s .pre .0) (s .pre .1),
     )
 
@@ -38,7 +42,9 @@ returns : tie.Need-returns
 returns c =
     let s = c .before .before .before .before .before in
     let b = c .before .before in
-    let e = loss-is (s .args .n) (now (s .args .w)) (s .args .j) (b .before .get .ensures .0) (b .get2 .ensures .0) (c .before .get3 .ensures .0) (c .get4 .ensures .0) in
+    let e =
+    loss-is (s .args .n) (now (s .args .w)) (s .args .j) (b .before .get .ensures .0) (b .get2 .ensures .0) (c .before .get3 .ensures .0)
+    (c .get4 .ensures .0) in
     (e, omega (arith, loss-low (s .pre .0) (s .pre .1)))
 
 pub loss-of-spec : {M : Type 1} → statement M

@@ -52,7 +52,9 @@ abbrev at2 : tie.After-known-told2 → ℕ
 at2 c = c .before .f2 .given .0 .1 .0
 
 height2 : (c : tie.After-known-told2) → AfterHeight (bytes (start2 c)) (space (start2 c)) (w1 (told1 c)) (h2 c) (at2 c)
-height2 c = after-height (width1 (told1 c)) (took (bytes (start2 c)) (at1 (told1 c)) 1 32768 (c .before .before .before .read-field2 .ensures) (c .before .f2 .given .1))
+height2 c =
+    after-height (width1 (told1 c))
+    (took (bytes (start2 c)) (at1 (told1 c)) 1 32768 (c .before .before .before .read-field2 .ensures) (c .before .f2 .given .1))
 
 -- the connectivity
 abbrev told2 : tie.After-known-told3 → tie.After-known-told2
@@ -91,7 +93,8 @@ h4 c = h2 (told2 (told3 c))
 abbrev k4 : tie.After-known-told4 → ℕ
 k4 c = k3 (told3 c)
 
-count4 : (c : tie.After-known-told4) → AfterCount (bytes (start4 c)) (space (start4 c)) (w4 c) (h4 c) (k4 c) (c .before .f4 .given .0 .0) (c .before .f4 .given .0 .1 .0)
+count4 : (c : tie.After-known-told4)
+    → AfterCount (bytes (start4 c)) (space (start4 c)) (w4 c) (h4 c) (k4 c) (c .before .f4 .given .0 .0) (c .before .f4 .given .0 .1 .0)
 count4 c =
     after-count (connectivity3 (told3 c)) (fit (c .before .before .before .before))
     (took (bytes (start4 c)) (at3 (told3 c)) 1 (w4 c * h4 c) (c .before .before .before .read-field4 .ensures) (c .before .f4 .given .1))
@@ -115,7 +118,8 @@ refusal-requires c κs = tt
 returns : tie.Need-returns
 returns c =
     let st = c .before .before .before .before .before .before in
-    early-answer (spelt st) (now (st .args .work)) (width-stops (bytes st) (space st) (stopped (c .before .before .before .read-field .ensures) (c .before .enum-told .given .1) (c .refusal .ensures)))
+    early-answer (spelt st) (now (st .args .work))
+    (width-stops (bytes st) (space st) (stopped (c .before .before .before .read-field .ensures) (c .before .enum-told .given .1) (c .refusal .ensures)))
 
 read-field-requires-2 : tie.Need-read-field-requires-2
 read-field-requires-2 c κs = tt
@@ -132,7 +136,8 @@ refusal-requires-2 c κs = tt
 returns-2 : tie.Need-returns-2
 returns-2 c =
     let a = c .before .before .before .before in
-    early-answer (spelt (start1 a)) (now (start1 a .args .work)) (height-stops (width1 a) (stopped (c .before .before .before .read-field2 .ensures) (c .before .enum-told2 .given .1) (c .refusal2 .ensures)))
+    early-answer (spelt (start1 a)) (now (start1 a .args .work))
+    (height-stops (width1 a) (stopped (c .before .before .before .read-field2 .ensures) (c .before .enum-told2 .given .1) (c .refusal2 .ensures)))
 
 mul-pixels : tie.Need-mul-pixels
 mul-pixels c = record { fits = height2 c .fits }
@@ -158,7 +163,9 @@ returns-4 : tie.Need-returns-4
 returns-4 c =
     let e = c .before .before .before .before in
     let a = e .before in
-    early-answer (spelt (start2 a)) (now (start2 a .args .work)) (connectivity-stops (height2 a) (e .if1 .left) (stopped (c .before .before .before .read-field3 .ensures) (c .before .enum-told3 .given .1) (c .refusal3 .ensures)))
+    early-answer (spelt (start2 a)) (now (start2 a .args .work))
+    (connectivity-stops (height2 a) (e .if1 .left)
+    (stopped (c .before .before .before .read-field3 .ensures) (c .before .enum-told3 .given .1) (c .refusal3 .ensures)))
 
 connectivity-fits-requires : tie.Need-connectivity-fits-requires
 connectivity-fits-requires c κs = tt
@@ -185,7 +192,8 @@ returns-6 : tie.Need-returns-6
 returns-6 c =
     let e = c .before .before .before .before in
     let a = e .before .before in
-    early-answer (spelt (start3 a)) (now (start3 a .args .work)) (count-stops (connectivity3 a) (fit e) (stopped (c .before .before .before .read-field4 .ensures) (c .before .enum-told4 .given .1) (c .refusal4 .ensures)))
+    early-answer (spelt (start3 a)) (now (start3 a .args .work))
+    (count-stops (connectivity3 a) (fit e) (stopped (c .before .before .before .read-field4 .ensures) (c .before .enum-told4 .given .1) (c .refusal4 .ensures)))
 
 cast-n : tie.Need-cast-n
 cast-n c = search needs

@@ -23,9 +23,11 @@ loop1 c = c .before .before .before .before .before
 abbrev start1 : tie.After-known-told Inv-loop μ-loop → tie.Start Inv-loop μ-loop
 start1 c = loop1 c .before .before .before
 
-took1 : (c : tie.After-known-told Inv-loop μ-loop) → Took (now (start1 c .args .s)) (loop1 c .loop .at) 0 (start1 c .args .count - 1) (c .before .f .given .0 .0) (c .before .f .given .0 .1 .0)
+took1 : (c : tie.After-known-told Inv-loop μ-loop)
+    → Took (now (start1 c .args .s)) (loop1 c .loop .at) 0 (start1 c .args .count - 1) (c .before .f .given .0 .0) (c .before .f .given .0 .1 .0)
 took1 c =
-    took (now (start1 c .args .s)) (loop1 c .loop .at) 0 (start1 c .args .count - 1) (rw (loop1 c .loop .inv .1) at (c .before .before .before .read-field .ensures)) (c .before .f .given .1)
+    took (now (start1 c .args .s)) (loop1 c .loop .at) 0 (start1 c .args .count - 1)
+    (rw (loop1 c .loop .inv .1) at (c .before .before .before .read-field .ensures)) (c .before .f .given .1)
 
 sub-last : tie.Need-sub-last Inv-loop μ-loop
 sub-last c = omega (arith, c .before .before .pre .some)
@@ -71,8 +73,10 @@ get-requires c κs =
 put-requires : tie.Need-put-requires Inv-loop μ-loop
 put-requires c κs =
     let k = c .before .before .before in
-    let l = loop1 k in
-    (frame-room (start1 k .pre .room) (l .loop .inv .0 .frame), (omega arith, (k .before .before .before .before .loop-test .taken, c .before .get .ensures .1)))
+    let l = loop1 k in (
+      frame-room (start1 k .pre .room) (l .loop .inv .0 .frame),
+      (omega arith, (k .before .before .before .before .loop-test .taken, c .before .get .ensures .1)),
+    )
 
 add-p : tie.Need-add-p Inv-loop μ-loop
 add-p c = omega arith
@@ -83,8 +87,11 @@ loop-less c = omega arith
 loop-again : tie.Need-loop-again Inv-loop μ-loop
 loop-again c =
     let k = c .before .before .before .before .before .before in
-    let l = loop1 k in
-    (greys-more (l .loop .inv .0) (k .before .before .before .before .loop-test .taken) (start1 k .pre .some) (took1 k) (c .before .before .before .before .get .ensures .0) (c .before .before .put .ensures), l .loop .inv .1)
+    let l = loop1 k in (
+      greys-more (l .loop .inv .0) (k .before .before .before .before .loop-test .taken) (start1 k .pre .some) (took1 k)
+          (c .before .before .before .before .get .ensures .0) (c .before .before .put .ensures),
+      l .loop .inv .1,
+    )
 
 same-length-2 : tie.Need-same-length-2 Inv-loop μ-loop
 same-length-2 c = c .before .loop .inv .0 .frame .len

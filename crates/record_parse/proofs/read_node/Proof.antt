@@ -21,12 +21,17 @@ bytes c = now (c .args .s)
 abbrev start1 : tie.After-known-told → tie.Start
 start1 c = c .before .before .before .before .before .before
 
-took1 : (c : tie.After-known-told) → Took (bytes (start1 c)) (start1 c .args .at) 1 (start1 c .args .i) (c .before .f1 .given .0 .0) (c .before .f1 .given .0 .1 .0)
+took1 : (c : tie.After-known-told)
+    → Took (bytes (start1 c)) (start1 c .args .at) 1 (start1 c .args .i) (c .before .f1 .given .0 .0) (c .before .f1 .given .0 .1 .0)
 took1 c = took (bytes (start1 c)) (start1 c .args .at) 1 (start1 c .args .i) (c .before .before .before .read-field .ensures) (c .before .f1 .given .1)
 
 -- the parent's level
 level-low : (c : tie.After-get) → c .get .result ≤ 255
 level-low c = level-fits (known (start1 (c .before .before))) (took1 (c .before .before)) (c .get .ensures .0)
+
+-- the position after the step back
+abbrev at1 : tie.After-known-told → ℕ
+at1 c = c .before .f1 .given .0 .1 .0
 
 -- the rise
 abbrev get2 : tie.After-known-told2 → tie.After-get
@@ -35,17 +40,25 @@ get2 c = c .before .before .before .before
 abbrev start2 : tie.After-known-told2 → tie.Start
 start2 c = start1 (get2 c .before .before)
 
-took2 : (c : tie.After-known-told2) → Took (bytes (start2 c)) (get2 c .before .before .before .f1 .given .0 .1 .0) 1 (255 - get2 c .get .result) (c .before .f2 .given .0 .0) (c .before .f2 .given .0 .1 .0)
-took2 c = took (bytes (start2 c)) (get2 c .before .before .before .f1 .given .0 .1 .0) 1 (255 - get2 c .get .result) (c .before .before .before .read-field2 .ensures) (c .before .f2 .given .1)
+abbrev at2 : tie.After-known-told2 → ℕ
+at2 c = c .before .f2 .given .0 .1 .0
+
+took2 : (c : tie.After-known-told2)
+    → Took (bytes (start2 c)) (at1 (get2 c .before .before)) 1 (255 - get2 c .get .result) (c .before .f2 .given .0 .0) (at2 c)
+took2 c =
+    took (bytes (start2 c)) (at1 (get2 c .before .before)) 1 (255 - get2 c .get .result)
+    (c .before .before .before .read-field2 .ensures) (c .before .f2 .given .1)
 
 sum-low : (c : tie.After-known-told2) → get2 c .get .result + c .before .f2 .given .0 .0 ≤ 255
 sum-low c = rise-fits (known (start2 c)) (took1 (get2 c .before .before)) (get2 c .get .ensures .0) (took2 c)
 
 -- the area
-took3 : (c : tie.After-known-told3) → let q = c .before .before .before .before in Took (bytes (start2 q)) (q .before .f2 .given .0 .1 .0) 1 (start2 q .args .n) (c .before .f3 .given .0 .0) (c .before .f3 .given .0 .1 .0)
+took3 : (c : tie.After-known-told3)
+    → let q = c .before .before .before .before in
+    Took (bytes (start2 q)) (at2 q) 1 (start2 q .args .n) (c .before .f3 .given .0 .0) (c .before .f3 .given .0 .1 .0)
 took3 c =
     let q = c .before .before .before .before in
-    took (bytes (start2 q)) (q .before .f2 .given .0 .1 .0) 1 (start2 q .args .n) (c .before .before .before .read-field3 .ensures) (c .before .f3 .given .1)
+    took (bytes (start2 q)) (at2 q) 1 (start2 q .args .n) (c .before .before .before .read-field3 .ensures) (c .before .f3 .given .1)
 
 cast-read-field : tie.Need-cast-read-field
 cast-read-field c = search needs

@@ -25,7 +25,12 @@ enum-told : tie.Need-enum-told Inv-loop μ-loop
 enum-told c = search needs
 
 same-length : tie.Need-same-length Inv-loop μ-loop
-same-length c = omega (arith, c .before .before .before .before .read-node .ensures .frame .len, c .before .before .before .before .before .before .before .loop .inv .frame .len)
+same-length c =
+    omega (
+      arith,
+      c .before .before .before .before .read-node .ensures .frame .len,
+      c .before .before .before .before .before .before .before .loop .inv .frame .len,
+    )
 
 returns : tie.Need-returns Inv-loop μ-loop
 returns c =

@@ -28,10 +28,11 @@ abbrev start2 : tie.After-known-told2 → tie.Start
 start2 c = start1 (told1 c)
 
 rooted2 : (c : tie.After-known-told2)
-    → Rooted (bytes (start2 c)) (start2 c .args .at) (start2 c .args .n) (start2 c .args .count) (told1 c .before .f1 .given .0 .0) (c .before .f2 .given .0 .1 .0)
+    → let s = start2 c .args in Rooted (now (s .s)) (s .at) (s .n) (s .count) (told1 c .before .f1 .given .0 .0) (c .before .f2 .given .0 .1 .0)
 rooted2 c =
     rooted (took1 (told1 c))
-    (took (bytes (start2 c)) (told1 c .before .f1 .given .0 .1 .0) 1 (start2 c .args .n) (c .before .before .before .read-field2 .ensures) (c .before .f2 .given .1))
+    (took (bytes (start2 c)) (told1 c .before .f1 .given .0 .1 .0) 1 (start2 c .args .n) (c .before .before .before .read-field2 .ensures)
+    (c .before .f2 .given .1))
 
 -- the other nodes, and the own nodes
 abbrev put-of : tie.After-read-nodes → tie.After-put
@@ -124,7 +125,8 @@ returns-4 c =
     let g = c .before .before .before .before in
     let k = g .before .before in
     let n = nodes k in
-    tree-stops₄ (rooted2 (root n)) (put-of n .put .ensures) (n .read-nodes .ensures) (k .before .nodes .given .1) (g .read-greys .ensures) (c .enum-told4 .given .1)
+    tree-stops₄ (rooted2 (root n)) (put-of n .put .ensures) (n .read-nodes .ensures) (k .before .nodes .given .1) (g .read-greys .ensures)
+    (c .enum-told4 .given .1)
 
 same-length-3 : tie.Need-same-length-3
 same-length-3 c = search needs
@@ -135,7 +137,8 @@ returns-5 c =
     let g = greys d in
     let k = g .before .before in
     let n = nodes k in
-    tree-left (rooted2 (root n)) (put-of n .put .ensures) (n .read-nodes .ensures) (k .before .nodes .given .1) (g .read-greys .ensures) (d .before .greys .given .1) (c .if1 .taken)
+    tree-left (rooted2 (root n)) (put-of n .put .ensures) (n .read-nodes .ensures) (k .before .nodes .given .1) (g .read-greys .ensures)
+    (d .before .greys .given .1) (c .if1 .taken)
 
 same-length-4 : tie.Need-same-length-4
 same-length-4 c = search needs
@@ -146,7 +149,8 @@ returns-6 c =
     let g = greys d in
     let k = g .before .before in
     let n = nodes k in
-    tree-done (rooted2 (root n)) (put-of n .put .ensures) (n .read-nodes .ensures) (k .before .nodes .given .1) (g .read-greys .ensures) (d .before .greys .given .1) (c .if1 .left)
+    tree-done (rooted2 (root n)) (put-of n .put .ensures) (n .read-nodes .ensures) (k .before .nodes .given .1) (g .read-greys .ensures)
+    (d .before .greys .given .1) (c .if1 .left)
 
 pub read-tree-spec : {M : Type 1} → statement M
 read-tree-spec =

@@ -2,12 +2,11 @@
 use borrow.Author.Needs.{needs}
 use Rattle.record_tree.proofs.read_tree.Statement.{statement}
 use Rattle.record_tree.proofs.read_tree.Tie as tie
-use mathlib.Core.Path.{refl, sym, _∙_}
+use mathlib.Core.Path.{sym, _∙_}
 use Prim.Native.Nat.{ℕ}
 use native.Mathlib.Omega.{arith}
 use borrow.Author.Tests.{not-true, not-false}
 use denote.Ref.{now}
-use lib.ListN.{length}
 use Rattle.record_parse.specs.Parse.{parse, readOf}
 use Rattle.record_tree.proofs.Finding.{PlateSpelt, spelt, spelt-buildable, spelt-few, spelt-here, found-different, found-tree, unspelt-found}
 
@@ -21,14 +20,18 @@ high c = c .before .p .given .0 .1 .0
 abbrev kind : tie.After-known-told → ℕ
 kind c = c .before .p .given .0 .1 .1 .0
 
-abbrev start : tie.After-known-told → tie.Start
-start c = c .before .before .before .before .before .before .before .before .before
+abbrev parsed : tie.After-known-told → tie.After-parse-record
+parsed c = c .before .before .before .before .before
 
-told : (c : tie.After-known-told) → PlateSpelt (now (start c .args .bytes)) (now (start c .args .work)) (c .before .before .before .before .before .parse-record .last .1 .0) (wide c) (high c) (kind c)
+abbrev start : tie.After-parse-record → tie.Start
+start c = c .before .before .before .before
+
+told : (c : tie.After-known-told)
+    → let s = start (parsed c) .args in
+    PlateSpelt (now (s .bytes)) (now (s .work)) (parsed c .parse-record .last .1 .0) (wide c) (high c) (kind c)
 told c =
-    let p = c .before .before .before .before .before .parse-record in
-    let s = start c .args in
-    spelt (now (s .bytes)) (parse (now (s .bytes)) (length (now (s .work)))) refl (p .ensures .0) (p .ensures .1) (c .before .p .given .1)
+    let p = parsed c .parse-record in
+    spelt (now (start (parsed c) .args .bytes)) (p .ensures .0) (p .ensures .1) (c .before .p .given .1)
 
 parse-record-requires : tie.Need-parse-record-requires
 parse-record-requires c κs = search needs
@@ -45,9 +48,10 @@ same-length c = search needs
 returns : tie.Need-returns
 unfolding readOf parse
 returns c =
-    let s = c .before .before .before .before .before .before .before .before .args in
-    let p = c .before .before .before .before .parse-record in
-    unspelt-found (now (s .bytes)) (parse (now (s .bytes)) (length (now (s .work)))) (p .ensures .0) (p .ensures .1) (c .before .match .keys2) (c .unspelt .ensures)
+    let a = c .before .before .before .before in
+    let s = start a .args in
+    let p = a .parse-record in
+    unspelt-found (now (s .bytes)) (now (s .work)) (p .last .1 .0) (p .result) (p .ensures .0) (p .ensures .1) (c .before .match .keys2) (c .unspelt .ensures)
 
 mul-n : tie.Need-mul-n
 mul-n c = omega (arith, spelt-few (told c))
@@ -65,10 +69,10 @@ cast-build-tree-3 : tie.Need-cast-build-tree-3
 cast-build-tree-3 c = search needs
 
 build-tree-requires : tie.Need-build-tree-requires
-build-tree-requires c κs = spelt-buildable (told (c .before)) refl
+build-tree-requires c κs = spelt-buildable (told (c .before))
 
 same-requires : tie.Need-same-requires
-same-requires c κs = spelt-here (told (c .before .before .before .before .before)) refl (c .before .before .before .build-tree .ensures)
+same-requires c κs = spelt-here (told (c .before .before .before .before .before)) (c .before .before .before .build-tree .ensures)
 
 same-length-2 : tie.Need-same-length-2
 same-length-2 c = search needs
@@ -76,7 +80,7 @@ same-length-2 c = search needs
 returns-2 : tie.Need-returns-2
 returns-2 c =
     let b = c .before .before .before .before .before in
-    found-different (told (b .before .before)) refl (b .build-tree .ensures) (sym (c .before .same .ensures) ∙ not-true _ (c .if1 .taken))
+    found-different (told (b .before .before)) (b .build-tree .ensures) (sym (c .before .same .ensures) ∙ not-true _ (c .if1 .taken))
 
 same-length-3 : tie.Need-same-length-3
 same-length-3 c = search needs
@@ -84,7 +88,7 @@ same-length-3 c = search needs
 returns-3 : tie.Need-returns-3
 returns-3 c =
     let b = c .before .before .before .before .before in
-    found-tree (told (b .before .before)) refl (b .build-tree .ensures) (sym (c .before .same .ensures) ∙ not-false _ (c .if1 .left))
+    found-tree (told (b .before .before)) (b .build-tree .ensures) (sym (c .before .same .ensures) ∙ not-false _ (c .if1 .left))
 
 pub read-tree-spec : {M : Type 1} → statement M
 read-tree-spec =

@@ -51,7 +51,11 @@ same-length : tie.Need-same-length Inv-loop μ-loop
 same-length c = simp length-set (c .before .loop .inv .same)
 
 returns : tie.Need-returns Inv-loop μ-loop
-returns c = let a = c .before .before .args in let l = c .before .loop .inv in (left-ends _ _ _ _ _ _ l (c .loop-test .left), left-last _ _ _ _ _ _ l (c .loop-test .left) ∙ sets-eq (varint (a .v)) (now (a .out)) (a .at) (c .before .before .pre))
+returns c =
+    let a = c .before .before .args in
+    let l = c .before .loop .inv in
+    let x = c .loop-test .left in
+    (left-ends _ _ _ _ _ _ l x, left-last _ _ _ _ _ _ l x ∙ sets-eq (varint (a .v)) (now (a .out)) (a .at) (c .before .before .pre))
 
 pub put-field-spec : {M : Type 1} → statement M
 put-field-spec =

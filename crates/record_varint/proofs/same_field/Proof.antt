@@ -27,7 +27,9 @@ byte-is-requires : tie.Need-byte-is-requires Inv-loop μ-loop
 byte-is-requires c κs = tt
 
 returns : tie.Need-returns Inv-loop μ-loop
-returns c = compared-differs _ _ _ _ _ (c .before .before .before .loop .inv) (c .before .before .loop-test .taken) (sym (c .before .byte-is .ensures) ∙ not-true _ (c .if1 .taken))
+returns c =
+    compared-differs _ _ _ _ _ (c .before .before .before .loop .inv) (c .before .before .loop-test .taken)
+    (sym (c .before .byte-is .ensures) ∙ not-true _ (c .if1 .taken))
 
 add-i : tie.Need-add-i Inv-loop μ-loop
 add-i c =
@@ -40,13 +42,17 @@ loop-less : tie.Need-loop-less Inv-loop μ-loop
 loop-less c = omega arith
 
 loop-again : tie.Need-loop-again Inv-loop μ-loop
-loop-again c = compared-more _ _ _ _ _ (c .before .before .before .loop .inv) (c .before .before .loop-test .taken) (sym (c .before .byte-is .ensures) ∙ not-false _ (c .if1 .left))
+loop-again c =
+    compared-more _ _ _ _ _ (c .before .before .before .loop .inv) (c .before .before .loop-test .taken)
+    (sym (c .before .byte-is .ensures) ∙ not-false _ (c .if1 .left))
 
 byte-is-requires-2 : tie.Need-byte-is-requires-2 Inv-loop μ-loop
 byte-is-requires-2 c κs = tt
 
 returns-2 : tie.Need-returns-2 Inv-loop μ-loop
-returns-2 c = compared-last-differs _ _ _ _ _ (c .before .before .before .loop .inv) (c .before .before .loop-test .left) (sym (c .before .byte-is2 .ensures) ∙ not-true _ (c .if2 .taken))
+returns-2 c =
+    compared-last-differs _ _ _ _ _ (c .before .before .before .loop .inv) (c .before .before .loop-test .left)
+    (sym (c .before .byte-is2 .ensures) ∙ not-true _ (c .if2 .taken))
 
 add-t12 : tie.Need-add-t12 Inv-loop μ-loop
 add-t12 c =
@@ -56,7 +62,9 @@ add-t12 c =
     search needs
 
 returns-3 : tie.Need-returns-3 Inv-loop μ-loop
-returns-3 c = compared-same _ _ _ _ _ (c .before .before .before .loop .inv) (c .before .before .loop-test .left) (sym (c .before .byte-is2 .ensures) ∙ not-false _ (c .if2 .left))
+returns-3 c =
+    compared-same _ _ _ _ _ (c .before .before .before .loop .inv) (c .before .before .loop-test .left)
+    (sym (c .before .byte-is2 .ensures) ∙ not-false _ (c .if2 .left))
 
 pub same-field-spec : {M : Type 1} → statement M
 same-field-spec =

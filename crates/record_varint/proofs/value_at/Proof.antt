@@ -60,7 +60,8 @@ loop-again : tie.Need-loop-again Inv-loop μ-loop
 loop-again c =
     let l = c .before .before .before in
     let st = l .before .before .before .before in
-    spelt-back _ _ _ (st .pre .0) (st .pre .1) _ _ _ (λ k. omega (arith, c .before .shared-slice-known3 .given k)) (l .loop .inv) (c .before .before .loop-test .taken) (c .wide2 .ensures)
+    spelt-back _ _ _ (st .pre .0) (st .pre .1) _ _ _ (λ k. omega (arith, c .before .shared-slice-known3 .given k)) (l .loop .inv)
+    (c .before .before .loop-test .taken) (c .wide2 .ensures)
 
 returns : tie.Need-returns Inv-loop μ-loop
 returns c = let st = c .before .before .before .before .before in spelt-all _ _ _ (st .pre .0) (st .pre .1) _ _ (c .before .loop .inv) (c .loop-test .left)

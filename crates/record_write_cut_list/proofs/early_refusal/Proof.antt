@@ -2,27 +2,37 @@
 use borrow.Author.Needs.{needs}
 use Rattle.record_write_cut_list.proofs.early_refusal.Statement.{statement}
 use Rattle.record_write_cut_list.proofs.early_refusal.Tie as tie
-use mathlib.Core.Path.{sym, _∙_}
-use borrow.Author.Tests.{ne-eqb}
-use Rattle.record_write_cut_list.specs.Joint.{earlyRefusal}
+use mathlib.Core.Logic.{inl, inr}
+use borrow.Author.Tests.{eqb-false, eqb-true, not-false, not-true}
+use Rattle.record_write_cut_list.proofs.Conditions.{early-long, early-short, early-stays}
 
 clean-refusal-requires : tie.Need-clean-refusal-requires
 clean-refusal-requires c κs = search needs
 
 returns : tie.Need-returns
-unfolding earlyRefusal
-returns c = rw (sym (c .before .clean-refusal .ensures), ne-eqb _ 0 (c .if1 .taken))
+returns c =
+    let s = c .before .before .before .args in
+    early-stays (s .connectivity) (s .width) (s .height) (s .limit) (s .plate) (s .out) (s .counts) (s .losses) (s .work)
+    (c .before .before .clean-refusal .ensures) (c .before .if1 .taken) (eqb-false _ 6 (not-true _ (c .if2 .taken)))
 
 tables-short-requires : tie.Need-tables-short-requires
 tables-short-requires c κs = search needs
 
 returns-2 : tie.Need-returns-2
-unfolding earlyRefusal
-returns-2 c = rw (sym (c .before .before .before .clean-refusal .ensures) ∙ c .before .before .if1 .left, sym (c .before .tables-short .ensures) ∙ c .if2 .taken)
+returns-2 c =
+    let s = c .before .before .before .before .args in
+    early-short (s .connectivity) (s .width) (s .height) (s .limit) (s .plate) (s .out) (s .counts) (s .losses) (s .work)
+    (c .before .before .before .clean-refusal .ensures)
+    (elim (c .before .before .if1 .came) [ inl x ↦ inr (eqb-true _ 6 (not-false _ (x .1 .left))) | inr x ↦ inl (x .left) ])
+    (c .before .tables-short .ensures) (c .if3 .taken)
 
 returns-3 : tie.Need-returns-3
-unfolding earlyRefusal
-returns-3 c = rw (sym (c .before .before .before .clean-refusal .ensures) ∙ c .before .before .if1 .left, sym (c .before .tables-short .ensures) ∙ c .if2 .left)
+returns-3 c =
+    let s = c .before .before .before .before .args in
+    early-long (s .connectivity) (s .width) (s .height) (s .limit) (s .plate) (s .out) (s .counts) (s .losses) (s .work)
+    (c .before .before .before .clean-refusal .ensures)
+    (elim (c .before .before .if1 .came) [ inl x ↦ inr (eqb-true _ 6 (not-false _ (x .1 .left))) | inr x ↦ inl (x .left) ])
+    (c .before .tables-short .ensures) (c .if3 .left)
 
 pub early-refusal-spec : {M : Type 1} → statement M
 early-refusal-spec =

@@ -3,9 +3,30 @@ use borrow.Author.Needs.{needs}
 use Rattle.record_write_cut_list.proofs.write_cut_list.Statement.{statement}
 use Rattle.record_write_cut_list.proofs.write_cut_list.Tie as tie
 use mathlib.Core.Path.{sym}
-use denote.Ref.{now}
 use lib.Seq.{length-take-le}
-use Rattle.record_write_cut_list.proofs.Joining.{written-within, joined-refused, joined-short, joined-done}
+use Rattle.record_write_cut_list.proofs.Outcomes.{listed-done, listed-refused, listed-short, written-within}
+
+-- ---- where the function stands: ahead of the work, with the record written, the bytes passed on to the cut, the cut made, the sizes listed
+
+abbrev early : tie.After-write-record → tie.Else1
+early c = c .before .before .before
+
+abbrev writing : tie.Else2 → tie.After-write-record
+writing c = c .before .before .before .before .before .before
+
+abbrev cutting : tie.After-slice-known9 → tie.After-cut-record
+cutting c = c .before .before .before .before
+
+abbrev passed : tie.After-cut-record → tie.Else2
+passed c = c .before .before .before .before
+
+abbrev listing : tie.After-slice-known12 → tie.After-size-list
+listing c = c .before .before .before .before .before .before
+
+abbrev cut-made : tie.After-size-list → tie.After-slice-known9
+cut-made c = c .before .before .before .before .before
+
+-- ---- the needs
 
 early-refusal-requires : tie.Need-early-refusal-requires
 early-refusal-requires c κs = search needs
@@ -14,9 +35,7 @@ refused-requires : tie.Need-refused-requires
 refused-requires c κs = search needs
 
 returns : tie.Need-returns
-returns c =
-    let s = c .before .before .before .before .before .before .before .before .before .args in
-    rw (c .refused .ensures) (joined-refused (s .connectivity) (s .width) (s .height) (s .limit) (now (s .image)) (now (s .bytes)) (now (s .out)) (now (s .counts)) (now (s .losses)) (now (s .work)) (c .before .before .early-refusal .ensures) (c .before .if1 .taken))
+returns c = rw (c .refused .ensures) (listed-refused _ _ _ _ _ _ _ _ _ _ (c .before .before .early-refusal .ensures) (c .before .if1 .taken))
 
 write-record-requires : tie.Need-write-record-requires
 write-record-requires c κs = search needs
@@ -32,24 +51,25 @@ same-length-2 c = search needs
 
 returns-2 : tie.Need-returns-2
 returns-2 c =
-    let s = c .before .before .before .before .before .before .before .before .before .before .before .before .before .before .before .before .before .before .args in
-    let e = c .before .before .before .before .before .before .before .before .before .before in
-    rw (c .refused2 .ensures) (joined-short (s .connectivity) (s .width) (s .height) (s .limit) (now (s .image)) (now (s .bytes)) (now (s .out)) (now (s .counts)) (now (s .losses)) (now (s .work)) (e .before .early-refusal .ensures) (e .if1 .left) (c .before .before .before .before .before .before .before .write-record .ensures) (c .before .if2 .taken))
+    let written = c .before .before .before .before .before .before .before in
+    let e = early written in
+    rw (c .refused2 .ensures)
+    (listed-short _ _ _ _ _ _ _ _ _ _ (e .before .early-refusal .ensures) (e .if1 .left) (written .write-record .ensures) (c .before .if2 .taken))
 
 slice-reshare-prefix-cut-record : tie.Need-slice-reshare-prefix-cut-record
-slice-reshare-prefix-cut-record c = written-within (c .before .before .before .before .before .before .write-record .ensures)
+slice-reshare-prefix-cut-record c = written-within (writing c .write-record .ensures)
 
 slice-aggregate-cut-record : tie.Need-slice-aggregate-cut-record
-slice-aggregate-cut-record c = sym (length-take-le _ _ (written-within (c .before .before .before .before .before .before .before .write-record .ensures)))
+slice-aggregate-cut-record c = sym (length-take-le _ _ (written-within (writing (c .before) .write-record .ensures)))
 
 cut-record-requires : tie.Need-cut-record-requires
 cut-record-requires c κs = search needs
 
 slice-reshare-prefix-size-list : tie.Need-slice-reshare-prefix-size-list
-slice-reshare-prefix-size-list c = written-within (c .before .before .before .before .before .before .before .before .before .before .before .before .before .before .write-record .ensures)
+slice-reshare-prefix-size-list c = written-within (writing (passed (cutting c)) .write-record .ensures)
 
 slice-aggregate-size-list : tie.Need-slice-aggregate-size-list
-slice-aggregate-size-list c = sym (length-take-le _ _ (written-within (c .before .before .before .before .before .before .before .before .before .before .before .before .before .before .before .write-record .ensures)))
+slice-aggregate-size-list c = sym (length-take-le _ _ (written-within (writing (passed (cutting (c .before))) .write-record .ensures)))
 
 size-list-requires : tie.Need-size-list-requires
 size-list-requires c κs = search needs
@@ -71,10 +91,12 @@ same-length-7 c = search needs
 
 returns-3 : tie.Need-returns-3
 returns-3 c =
-    let b = c .before .before .before .before .before .before .before .before .before .before .before .before .before .before .before .before .before .before .before .before .before .before .before .before .before in
-    let e = b .before .before .before in
-    let s = c .before .before .before .before .before .before .before .before .before .before .before .before .before .before .before .before .before .before .before .before .before .before .before .before .before .before .before .before .before .before .before .before .before .before .before .before .args in
-    joined-done (s .connectivity) (s .width) (s .height) (s .limit) (now (s .image)) (now (s .bytes)) (now (s .out)) (now (s .counts)) (now (s .losses)) (now (s .work)) (e .before .early-refusal .ensures) (e .if1 .left) (b .write-record .ensures) (c .before .before .before .before .before .before .before .before .before .before .before .before .before .before .before .before .before .before .before .if2 .left) (c .before .before .before .before .before .before .before .before .before .before .before .before .before .before .before .cut-record .ensures) (c .before .before .before .before .before .before .size-list .ensures)
+    let cut = cutting (cut-made (listing c)) in
+    let to-cut = passed cut in
+    let written = writing to-cut in
+    let e = early written in
+    listed-done _ _ _ _ _ _ _ _ _ _ (e .before .early-refusal .ensures) (e .if1 .left) (written .write-record .ensures) (to-cut .if2 .left)
+    (cut .cut-record .ensures) (listing c .size-list .ensures)
 
 pub write-cut-list-spec : {M : Type 1} → statement M
 write-cut-list-spec =

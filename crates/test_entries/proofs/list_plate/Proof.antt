@@ -46,9 +46,9 @@ use denote.Triple.Table.{entered, cited}
 use denote.Triple.Walked.{Stays, stay-none, stay-none-slice, gave-slice, walkOf, goes-none, goes-none-slice, goes-gave-slice, Walks, ends-at, walked, walk-meets}
 use denote.Exit.{yes}
 use denote.Signature.{plain}
-use Rattle.plate_filter.specs.declared.NodeList.{NodeList}
-use Rattle.plate_filter.proofs.NodeList as N
-use Rattle.plate_filter.proofs.NodeList.Laws as N′
+use Rattle.plate_tree.specs.declared.NodeList.{NodeList}
+use Rattle.plate_tree.proofs.NodeList as N
+use Rattle.plate_tree.proofs.NodeList.Laws as N′
 use Rattle.plate_entries.specs.declared.Node.{Node}
 use Rattle.plate_entries.specs.Entries.{EntriesListed}
 use Rattle.plate_entries.proofs.Node as T

@@ -1,7 +1,6 @@
 -- `print_name` is safe: the name is a part of the line.
 use lib.Seq.{length-take-le}
 use mathlib.Core.Path.{sym}
-use borrow.Author.Needs.{needs}
 use Rattle.test_vectors.proofs.print_name.Statement.{statement}
 use Rattle.test_vectors.proofs.print_name.Tie as tie
 

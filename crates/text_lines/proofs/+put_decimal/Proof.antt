@@ -46,7 +46,7 @@ module _ (t : ℕ) where
   returns c =
       let p = c .before .before .put-byte .ensures in
       let s = c .before .before .before .before .before .before in
-      (rw (decimal-one (s .args .value) (c .before .before .before .before .if1 .taken)) p, omega (arith, p .behind))
+      (rw (decimal-one (s .args .value) (c .before .before .before .before .if1 .taken)) p, omega (arith, p .after))
 
   put-decimal-requires : put-decimal-lts.Need-put-decimal-requires (calls t) (decimal-at t) put-decimal.Post
   put-decimal-requires c κs =
@@ -67,7 +67,7 @@ module _ (t : ℕ) where
       omega (
         arith,
         s .pre .1,
-        p .behind,
+        p .after,
         put-length p,
         decimal-length (s .args .value) (d .before .before .if1 .left),
         decimal-twenty (s .args .value) (omega arith),
@@ -82,10 +82,11 @@ module _ (t : ℕ) where
       let s = d .before .before .before .before in
       let p = put-put (d .put-decimal .ensures .0) (c .before .before .put-byte2 .ensures) in
       let e = decimal-more (s .args .value) (d .before .before .if1 .left) in
-      (rw e p, omega (arith, p .behind, ap length e, decimal-twenty (s .args .value) (omega arith)))
+      (rw e p, omega (arith, p .after, ap length e, decimal-twenty (s .args .value) (omega arith)))
 
 pub +put-decimal-spec : {M : Type 1} → statement M
 +put-decimal-spec =
     close μ-put-decimal
     (λ t.
-    put-decimal-lts.spec (calls t) (decimal-at t) put-decimal.Post (cast-put-byte t) (add-put-byte t) (put-byte-requires t) (same-length t) (returns t) (put-decimal-requires t) (cast-put-byte-2 t) (add-put-byte-2 t) (put-byte-requires-2 t) (same-length-2 t) (returns-2 t))
+    put-decimal-lts.spec (calls t) (decimal-at t) put-decimal.Post (cast-put-byte t) (add-put-byte t) (put-byte-requires t) (same-length t)
+    (returns t) (put-decimal-requires t) (cast-put-byte-2 t) (add-put-byte-2 t) (put-byte-requires-2 t) (same-length-2 t) (returns-2 t))

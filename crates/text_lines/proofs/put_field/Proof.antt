@@ -18,7 +18,7 @@ returns : tie.Need-returns
 returns c =
     let b = c .before .before .before .before .before .before .put-byte .ensures in
     let d = c .before .before .put-decimal .ensures in
-    (put-put b (d .0), omega (arith, b .behind, d .1))
+    (put-put b (d .0), omega (arith, b .after, d .1))
 
 pub put-field-spec : {M : Type 1} → statement M
 put-field-spec = tie.close (tie.spec put-byte-requires put-decimal-requires same-length returns)

@@ -75,7 +75,9 @@ slice-aggregate-put-sizes-2 : tie.Need-slice-aggregate-put-sizes-2
 slice-aggregate-put-sizes-2 c = search needs
 
 sub-put-sizes : tie.Need-sub-put-sizes
-sub-put-sizes c = plate-some (plate-of (c .before .before .before .before .before .before .before .before .before .before .before .before .before .before .before .before .before .before .before .before .before))
+sub-put-sizes c =
+    let l = c .before .before .before .before .before .before .before .before .before .before in
+    plate-some (plate-of (l .before .before .before .before .before .before .before .before .before .before .before))
 
 put-sizes-requires : tie.Need-put-sizes-requires
 put-sizes-requires c κs = search needs
@@ -88,7 +90,8 @@ put-rest-requires c κs =
     let k = l .before .before .before .before .before .before .before .before .before .before .before in
     let p = k .before .pre in (
       omega (arith, s .put-sizes .ensures .1, h .put-head .ensures .1, p .small, p .room),
-      listed-low (plate-of k) (bytes-are (l .before .before .before .before .before .before .before)) (omega (arith, p .long, p .small)) (omega (arith, p .long, p .small))
+      listed-low (plate-of k) (bytes-are (l .before .before .before .before .before .before .before)) (omega (arith, p .long, p .small))
+          (omega (arith, p .long, p .small))
           (omega (arith, p .long, p .small, slice-aggregate-size-list-4 (l .before)))
           (l .size-list .ensures),
     )
@@ -103,7 +106,8 @@ returns c =
     let l = h .before .before .before .before .before in
     let k = l .before .before .before .before .before .before .before .before .before .before .before in
     let p = k .before .pre in
-    rw (listed-text (plate-of k) (bytes-are (l .before .before .before .before .before .before .before)) (omega (arith, p .long, p .small)) (omega (arith, p .long, p .small))
+    rw (listed-text (plate-of k) (bytes-are (l .before .before .before .before .before .before .before)) (omega (arith, p .long, p .small))
+    (omega (arith, p .long, p .small))
     (omega (arith, p .long, p .small, slice-aggregate-size-list-4 (l .before)))
     (l .size-list .ensures))
     at (put-put (put-put (h .put-head .ensures .0) (s .put-sizes .ensures .0)) (c .before .before .put-rest .ensures))

@@ -48,12 +48,12 @@ returns c =
       end-line b4 (e .put-end .ensures),
       omega (
         arith,
-        w .put-word .ensures .behind,
+        w .put-word .ensures .after,
         f1 .put-field .ensures .1,
         f2 .put-field2 .ensures .1,
         f3 .put-field3 .ensures .1,
         f4 .put-field4 .ensures .1,
-        e .put-end .ensures .behind,
+        e .put-end .ensures .after,
       ),
     )
 

@@ -16,8 +16,11 @@ shared-slice-read-count c = search needs
 
 returns : tie.Need-returns
 returns c =
-    let s = c .before .before .before .before .before .args in
-    (rw (size-none (now (s .counts)) (now (s .losses)) (s .i) (c .if1 .taken)) (put-nothing (now (s .text)) (s .at) (omega (arith, c .before .before .before .before .before .pre .0))), omega arith)
+    let s = c .before .before .before .before .before .args in (
+      rw (size-none (now (s .counts)) (now (s .losses)) (s .i) (c .if1 .taken))
+          (put-nothing (now (s .text)) (s .at) (omega (arith, c .before .before .before .before .before .pre .0))),
+      omega arith,
+    )
 
 add-put-decimal : tie.Need-add-put-decimal
 add-put-decimal c = search needs
@@ -26,7 +29,12 @@ put-decimal-requires : tie.Need-put-decimal-requires
 put-decimal-requires c κs = search needs
 
 cast-put-field : tie.Need-cast-put-field
-cast-put-field c = omega (arith, c .before .before .before .before .before .before .shared-slice-known3 .given (c .before .before .before .before .before .before .before .before .before .before .args .i))
+cast-put-field c =
+    omega (
+      arith,
+      c .before .before .before .before .before .before .shared-slice-known3 .given
+          (c .before .before .before .before .before .before .before .before .before .before .args .i),
+    )
 
 put-field-requires : tie.Need-put-field-requires
 put-field-requires c κs = search needs
@@ -56,7 +64,7 @@ returns-2 c =
     let b = and-field (begin (d .put-decimal .ensures .0)) (nth (now (s .counts)) (s .i)) (f1 .put-field .ensures .0) in
     let l = end-line (and-field b (nth (now (s .losses)) (s .i)) (f2 .put-field2 .ensures .0)) (e .put-end .ensures) in (
       rw (size-some (now (s .counts)) (now (s .losses)) (s .i) (d .before .before .if1 .left)) l,
-      omega (arith, d .put-decimal .ensures .1, f1 .put-field .ensures .1, f2 .put-field2 .ensures .1, e .put-end .ensures .behind),
+      omega (arith, d .put-decimal .ensures .1, f1 .put-field .ensures .1, f2 .put-field2 .ensures .1, e .put-end .ensures .after),
     )
 
 pub put-size-spec : {M : Type 1} → statement M

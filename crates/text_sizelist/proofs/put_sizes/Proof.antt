@@ -4,7 +4,7 @@ use Prim.Native.Nat.{_+_, _*_, _-_, _≤_, _<_}
 use native.Mathlib.Omega.{arith}
 use native.Mathlib.Numerals.{add-one}
 use Rattle.meaning.specs.Sets.{gather}
-use Rattle.text_lines.specs.Lines.{Put}
+use Rattle.text_lines.specs.Lines.{PutText}
 use Rattle.text_lines.proofs.Pieces.{put-length, put-nothing, put-put}
 use Rattle.text_sizelist.specs.Text.{sizeLine}
 use Rattle.text_sizelist.proofs.put_sizes.Statement.{statement}
@@ -12,7 +12,7 @@ use Rattle.text_sizelist.proofs.put_sizes.Tie as tie
 
 abbrev Inv-loop : tie.InvT-loop
 Inv-loop text₀ at counts losses places next₀ i₀ text next i =
-    (i ≤ places) × (next ≤ at + 63 * i) × Put text₀ at (gather i (sizeLine counts losses)) text next
+    (i ≤ places) × (next ≤ at + 63 * i) × PutText text₀ at (gather i (sizeLine counts losses)) text next
 
 abbrev μ-loop : tie.MeasureT-loop
 μ-loop text₀ at counts losses places next₀ i₀ text next i = places - i

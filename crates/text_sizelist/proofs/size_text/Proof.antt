@@ -32,7 +32,8 @@ returns-2 : tie.Need-returns-2
 returns-2 c =
     let p = c .before .before .before .before .before in
     made (c .put-refused2 .ensures)
-    (text-refused (now (p .before .before .before .before .args .file)) (p .read-pgm .result) (p .before .before .if1 .left) (p .read-pgm .ensures .0) (c .before .before .if2 .taken))
+    (text-refused (now (p .before .before .before .before .args .file)) (p .read-pgm .result) (p .before .before .if1 .left) (p .read-pgm .ensures .0)
+    (c .before .before .if2 .taken))
 
 -- what was read, where nothing is refused
 read : (c : tie.Else2) → let p = c .before .before .before in
@@ -40,14 +41,16 @@ read : (c : tie.Else2) → let p = c .before .before .before in
     (length (rasterOf (now (p .before .before .before .before .args .file)))) heldPixels
 read c =
     let p = c .before .before .before in
-    read-is (now (p .before .before .before .before .args .file)) (replicate heldPixels 0) (p .read-pgm .last .1 .0) (p .read-pgm .result) (p .read-pgm .ensures .0) (c .if2 .left)
+    read-is (now (p .before .before .before .before .args .file)) (replicate heldPixels 0) (p .read-pgm .last .1 .0) (p .read-pgm .result)
+    (p .read-pgm .ensures .0) (c .if2 .left)
     (p .read-pgm .ensures .1)
 
 raster : (c : tie.Else2) → let p = c .before .before .before in
     take (p .read-pgm .result .width * p .read-pgm .result .height) (p .read-pgm .last .1 .0) ≡ rasterOf (now (p .before .before .before .before .args .file))
 raster c =
     let p = c .before .before .before in
-    raster-is (now (p .before .before .before .before .args .file)) (replicate heldPixels 0) (p .read-pgm .last .1 .0) (p .read-pgm .result) (p .read-pgm .ensures .0) (c .if2 .left)
+    raster-is (now (p .before .before .before .before .args .file)) (replicate heldPixels 0) (p .read-pgm .last .1 .0) (p .read-pgm .result)
+    (p .read-pgm .ensures .0) (c .if2 .left)
     (p .read-pgm .ensures .1)
 
 mul-pixels : tie.Need-mul-pixels
@@ -81,7 +84,8 @@ returns-3 c =
     let p = b .before .before .before in
     made (c .plate-text .ensures)
     (ap (plateText (p .read-pgm .result .width) (p .read-pgm .result .height)) (raster b)
-    ∙ text-plate (now (p .before .before .before .before .args .file)) (p .read-pgm .result) (p .before .before .if1 .left) (p .read-pgm .ensures .0) (b .if2 .left))
+    ∙ text-plate (now (p .before .before .before .before .args .file)) (p .read-pgm .result) (p .before .before .if1 .left) (p .read-pgm .ensures .0)
+    (b .if2 .left))
 
 pub size-text-spec : {M : Type 1} → statement M
 size-text-spec =

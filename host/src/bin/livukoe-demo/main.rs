@@ -1,6 +1,6 @@
 //! Makes the pictures of the demonstration.
 //!
-//!     livukoe-demo relief OUT.pgm          a relief plate with specks on it
+//!     livukoe-demo relief OUT.pgm          a relief map with dust on it
 //!     livukoe-demo png IN.pgm OUT.png      a plate file as a PNG
 
 mod png;
@@ -32,7 +32,7 @@ fn main() -> ExitCode {
 }
 
 fn relief(output: &str) -> Result<(), Box<dyn Error>> {
-    let plate = pictures::specked_relief(320, 240);
+    let plate = pictures::specked_relief(420, 300);
     let header = plate.pgm_header();
     fs::write(output, [header.as_bytes(), plate.greys()].concat())?;
     Ok(())

@@ -1,8 +1,10 @@
 //! What the command line asks for.
 
-use std::ffi::OsString;
+use std::ffi::{OsStr, OsString};
 
 use livukoe::Connectivity;
+
+use crate::names::shown;
 
 /// A request: help, the version, or a command to run.
 #[derive(Debug, PartialEq)]
@@ -30,11 +32,20 @@ pub enum Verb {
 pub struct Command {
     pub verb: Verb,
     /// 0 where the command takes none.
-    pub limit: u32,
+    pub limit: Limit,
     pub connectivity: Connectivity,
+    /// Whether a write-protected output is replaced.
+    pub force: bool,
     pub input: OsString,
     /// Standard output, `-`, where the command takes none.
     pub output: OsString,
+}
+
+/// A limit, and how it was given. One that is too large for its type is above every plate's pixels, and is refused as such.
+#[derive(Debug, Default, PartialEq)]
+pub struct Limit {
+    pub number: u32,
+    pub given: String,
 }
 
 /// A command's name, and which arguments it takes.
@@ -131,27 +142,27 @@ pub fn help() -> String {
     }
     text += "
 A file named - is standard input or output. The connectivity is 4 (shared sides) unless it is given.
+An OUT that is write-protected is left as it is, except with --force, which replaces it.
 IN.pgm is a binary PGM (P5) with the greatest grey 255, of up to 32768 x 32768 and 16777216 pixels.
 
-Exit status: 0 done; 1 refused, with the number and the reason; 2 bad usage; 3 a file cannot be read or written.
+Exit status: 0 done; 1 refused, with the number and the reason; 2 bad usage; 3 a file cannot be read or written,
+or there is not enough memory.
 ";
     text
 }
 
 /// Reads the command line, or says what is wrong with it.
-pub fn parse(words: impl Iterator<Item = OsString>) -> Result<Request, String> {
-    let mut words = words.peekable();
+pub fn parse(mut words: impl Iterator<Item = OsString>) -> Result<Request, String> {
     let first = words.next().ok_or("no command is given")?;
-    let name = first.to_string_lossy();
-    match name.as_ref() {
-        "--help" | "-h" | "help" => return Ok(Request::Help),
-        "--version" | "-V" => return Ok(Request::Version),
+    match first.to_str() {
+        Some("--help" | "-h" | "help") => return Ok(Request::Help),
+        Some("--version" | "-V" | "version") => return Ok(Request::Version),
         _ => {}
     }
     let form = FORMS
         .iter()
-        .find(|form| form.name == name)
-        .ok_or_else(|| format!("there is no command {name}"))?;
+        .find(|form| first == form.name)
+        .ok_or_else(|| format!("there is no command {}", shown(&first)))?;
     let given = Given::read(words)?;
     if given.help {
         return Ok(Request::Help);
@@ -163,7 +174,8 @@ pub fn parse(words: impl Iterator<Item = OsString>) -> Result<Request, String> {
 #[derive(Default)]
 struct Given {
     help: bool,
-    limit: Option<u32>,
+    force: bool,
+    limit: Option<Limit>,
     connectivity: Option<Connectivity>,
     files: Vec<OsString>,
 }
@@ -172,40 +184,54 @@ impl Given {
     fn read(mut words: impl Iterator<Item = OsString>) -> Result<Given, String> {
         let mut given = Given::default();
         while let Some(word) = words.next() {
-            let text = word.to_string_lossy().into_owned();
-            if text == "--" {
+            if word == "--" {
                 given.files.extend(words);
                 break;
             }
-            if !text.starts_with('-') || text == "-" {
+            if word == "-" || !word.as_encoded_bytes().starts_with(b"-") {
                 given.files.push(word);
                 continue;
             }
+            let text = word.to_string_lossy();
             let (name, value) = match text.split_once('=') {
-                Some((name, value)) => (name, Some(value.to_owned())),
-                None => (text.as_str(), None),
+                Some((name, value)) => (name, Some(OsString::from(value))),
+                None => (text.as_ref(), None),
             };
-            given.take_option(name, || {
-                let next = || words.next().map(|word| word.to_string_lossy().into_owned());
-                value.or_else(next)
-            })?;
+            given.take_option(name, value, &mut words)?;
         }
         Ok(given)
     }
 
+    /// Takes an option, whose value is the given one or else the next word.
     fn take_option(
         &mut self,
         name: &str,
-        value: impl FnOnce() -> Option<String>,
+        value: Option<OsString>,
+        words: &mut impl Iterator<Item = OsString>,
     ) -> Result<(), String> {
-        let value = || value().ok_or_else(|| format!("{name} lacks its value"));
-        match name {
-            "--help" | "-h" => self.help = true,
-            "--limit" => self.limit = Some(limit(&value()?)?),
-            "--connectivity" => self.connectivity = Some(connectivity(&value()?)?),
-            _ => return Err(format!("there is no option {name}")),
+        let flag = match name {
+            "--help" | "-h" => Some(&mut self.help),
+            "--force" => Some(&mut self.force),
+            _ => None,
+        };
+        if let Some(flag) = flag {
+            if value.is_some() {
+                return Err(format!("{name} takes no value"));
+            }
+            return once(name, !std::mem::replace(flag, true));
         }
-        Ok(())
+        let mut value = || {
+            let word = value.clone().or_else(|| words.next());
+            word.ok_or_else(|| format!("{name} lacks its value"))
+        };
+        match name {
+            "--limit" => once(name, self.limit.replace(limit(value()?)?).is_none()),
+            "--connectivity" => {
+                let number = connectivity(&value()?)?;
+                once(name, self.connectivity.replace(number).is_none())
+            }
+            _ => Err(format!("there is no option {}", shown(OsStr::new(name)))),
+        }
     }
 
     /// The command of a form, whose arguments are all there and no others.
@@ -214,42 +240,57 @@ impl Given {
         if form.limit && self.limit.is_none() {
             return Err(format!("{name} lacks --limit"));
         }
-        if !form.limit && self.limit.is_some() {
-            return Err(format!("{name} takes no --limit"));
+        let unwanted = [
+            ("--limit", self.limit.is_some() && !form.limit),
+            (
+                "--connectivity",
+                self.connectivity.is_some() && !form.connectivity,
+            ),
+            ("--force", self.force && !form.output),
+        ];
+        if let Some((option, _)) = unwanted.into_iter().find(|(_, unwanted)| *unwanted) {
+            return Err(format!("{name} takes no {option}"));
         }
-        if !form.connectivity && self.connectivity.is_some() {
-            return Err(format!("{name} takes no --connectivity"));
-        }
-        let wanted = if form.output { 2 } else { 1 };
+        let (wanted, files) = if form.output {
+            (2, "IN and OUT")
+        } else {
+            (1, "IN")
+        };
         if self.files.len() != wanted {
-            let files = if form.output { "IN and OUT" } else { "IN" };
-            return Err(format!(
-                "{name} takes {files}, and {} files are given",
-                self.files.len()
-            ));
+            let count = self.files.len();
+            let are = if count == 1 { "file is" } else { "files are" };
+            return Err(format!("{name} takes {files}, and {count} {are} given"));
         }
         let mut files = self.files.into_iter();
         Ok(Command {
             verb: form.verb,
-            limit: self.limit.unwrap_or(0),
+            limit: self.limit.unwrap_or_default(),
             connectivity: self.connectivity.unwrap_or_default(),
+            force: self.force,
             input: files.next().unwrap_or_default(),
             output: files.next().unwrap_or_else(|| "-".into()),
         })
     }
 }
 
-/// A limit. One that is too large for its type is above every plate's pixels, and is refused as such.
-fn limit(text: &str) -> Result<u32, String> {
-    if text.is_empty() || !text.bytes().all(|byte| byte.is_ascii_digit()) {
-        return Err(format!("the limit {text:?} is not a whole number"));
+/// Refuses an option that was there before.
+fn once(name: &str, first: bool) -> Result<(), String> {
+    match first {
+        true => Ok(()),
+        false => Err(format!("{name} is given twice")),
     }
-    Ok(text.parse().unwrap_or(u32::MAX))
 }
 
-fn connectivity(text: &str) -> Result<Connectivity, String> {
-    let number = text.parse().ok();
-    number
-        .and_then(Connectivity::from_number)
-        .ok_or_else(|| format!("the connectivity {text:?} is neither 4 nor 8"))
+fn limit(word: OsString) -> Result<Limit, String> {
+    let given = word.to_string_lossy().into_owned();
+    if given.is_empty() || !given.bytes().all(|byte| byte.is_ascii_digit()) {
+        return Err(format!("the limit {} is not a whole number", shown(&word)));
+    }
+    let number = given.parse().unwrap_or(u32::MAX);
+    Ok(Limit { number, given })
+}
+
+fn connectivity(word: &OsStr) -> Result<Connectivity, String> {
+    let known = word.to_str().and_then(|text| text.parse().ok());
+    known.ok_or_else(|| format!("the connectivity {} is neither 4 nor 8", shown(word)))
 }

@@ -1,14 +1,13 @@
 //! Runs a command: the input is read whole, the work is done, and only then is anything written.
 
-use std::ffi::OsStr;
-use std::io::Write;
-
 use livukoe::{Plate, Record, Refusal};
 
 use crate::arguments::{Command, Verb};
 use crate::failure::Failure;
-use crate::files;
+use crate::input;
+use crate::output;
 use crate::progress::Progress;
+use crate::words::Facts;
 
 pub fn run(command: &Command) -> Result<(), Failure> {
     match command.verb {
@@ -19,18 +18,18 @@ pub fn run(command: &Command) -> Result<(), Failure> {
         Verb::Record => record(command),
         Verb::Plate => from_record(command, "reading a record", |record, _| record.plate()),
         Verb::Cut => from_record(command, "cutting a record", |record, command| {
-            record.cut(command.limit)
+            record.cut(command.limit.number)
         }),
         Verb::SizeList => size_list(command),
     }
 }
 
 fn open(plate: &Plate, command: &Command) -> Result<Plate, Refusal> {
-    plate.area_open(command.connectivity, command.limit)
+    plate.area_open(command.connectivity, command.limit.number)
 }
 
 fn close(plate: &Plate, command: &Command) -> Result<Plate, Refusal> {
-    plate.area_close(command.connectivity, command.limit)
+    plate.area_close(command.connectivity, command.limit.number)
 }
 
 /// Marks as a picture: 255 inside a maximum.
@@ -46,9 +45,8 @@ fn from_plate(
     doing: &str,
     operation: fn(&Plate, &Command) -> Result<Plate, Refusal>,
 ) -> Result<(), Failure> {
-    let plate = read_plate(&command.input)?;
-    let answer = working(doing, &plate, || operation(&plate, command))?;
-    write_plate(&command.output, &answer)
+    let answer = on_plate(command, doing, |plate| operation(plate, command))?;
+    write_plate(command, &answer)
 }
 
 /// From a record to a plate file.
@@ -57,27 +55,25 @@ fn from_record(
     doing: &str,
     operation: fn(&Record, &Command) -> Result<Plate, Refusal>,
 ) -> Result<(), Failure> {
-    let record = Record::from_bytes(files::read(&command.input)?);
-    let progress = Progress::of(doing.to_owned());
-    let answer = operation(&record, command)?;
-    drop(progress);
-    write_plate(&command.output, &answer)
+    let answer = input::from_record(command, |record| {
+        let _progress = Progress::of(doing.to_owned());
+        operation(record, command)
+    })?;
+    write_plate(command, &answer)
 }
 
 fn record(command: &Command) -> Result<(), Failure> {
-    let plate = read_plate(&command.input)?;
-    let record = working("writing a record", &plate, || {
+    let record = on_plate(command, "writing a record", |plate| {
         plate.record(command.connectivity)
     })?;
-    files::write(&command.output, |out| out.write_all(record.bytes()))
+    output::write(command, &|out| out.write_all(record.bytes()))
 }
 
 fn nodes(command: &Command) -> Result<(), Failure> {
-    let plate = read_plate(&command.input)?;
-    let nodes = working("listing nodes", &plate, || {
+    let nodes = on_plate(command, "listing nodes", |plate| {
         plate.nodes(command.connectivity)
     })?;
-    files::write(&command.output, |out| {
+    output::write(command, &|out| {
         for (number, node) in nodes.iter().enumerate() {
             writeln!(
                 out,
@@ -90,29 +86,33 @@ fn nodes(command: &Command) -> Result<(), Failure> {
 }
 
 fn size_list(command: &Command) -> Result<(), Failure> {
-    let plate = read_plate(&command.input)?;
-    let sizes = working("listing sizes", &plate, || {
+    let sizes = on_plate(command, "listing sizes", |plate| {
         plate.record(command.connectivity)?.sizes()
     })?;
-    files::write(&command.output, |out| write!(out, "{sizes}"))
+    output::write(command, &|out| write!(out, "{sizes}"))
 }
 
-/// Does the work on a plate and shows its progress.
-fn working<T>(
+/// Does the work on the plate of a plate file, and shows its progress.
+fn on_plate<T>(
+    command: &Command,
     doing: &str,
-    plate: &Plate,
-    work: impl FnOnce() -> Result<T, Refusal>,
+    work: impl FnOnce(&Plate) -> Result<T, Refusal>,
 ) -> Result<T, Failure> {
-    let _progress = Progress::of(format!("{doing}, {} x {}", plate.width(), plate.height()));
-    Ok(work()?)
+    let plate = input::read_plate(command)?;
+    let (width, height) = (plate.width(), plate.height());
+    let _progress = Progress::of(format!("{doing}, {width} x {height}"));
+    work(&plate).map_err(|refusal| {
+        let facts = Facts {
+            size: Some((width, height)),
+            limit: &command.limit.given,
+            ..Facts::default()
+        };
+        Failure::refused(&command.input, refusal, &facts)
+    })
 }
 
-fn read_plate(name: &OsStr) -> Result<Plate, Failure> {
-    Ok(Plate::from_pgm(&files::read(name)?)?)
-}
-
-fn write_plate(name: &OsStr, plate: &Plate) -> Result<(), Failure> {
-    files::write(name, |out: &mut dyn Write| {
+fn write_plate(command: &Command, plate: &Plate) -> Result<(), Failure> {
+    output::write(command, &|out| {
         out.write_all(plate.pgm_header().as_bytes())?;
         out.write_all(plate.greys())
     })

@@ -19,7 +19,7 @@ impl Progress {
     pub fn of(doing: String) -> Progress {
         let shown = io::stderr().is_terminal().then(|| {
             let (done, over) = mpsc::channel();
-            let shower = thread::spawn(move || {
+            let shower = thread::Builder::new().spawn(move || {
                 let began = Instant::now();
                 let mut wait = PATIENCE;
                 while let Err(RecvTimeoutError::Timeout) = over.recv_timeout(wait) {
@@ -33,9 +33,11 @@ impl Progress {
                     show("");
                 }
             });
-            (done, shower)
+            Some((done, shower.ok()?)) // without a thread nothing is shown
         });
-        Progress { shown }
+        Progress {
+            shown: shown.flatten(),
+        }
     }
 }
 

@@ -1,0 +1,3 @@
+-- From the tree in the work space to the nodes of the definition.
+pub mod Nodes
+pub mod Starting

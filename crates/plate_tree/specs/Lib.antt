@@ -1,0 +1,2 @@
+-- What a node list answers.
+pub mod Listing

@@ -1,0 +1,2 @@
+-- The theorems about plates, as statements.
+pub mod Theorems

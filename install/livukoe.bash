@@ -1,0 +1,36 @@
+# Completions of livukoe for bash: commands, then each command's options, their values, and files.
+
+# The options of a command.
+_livukoe_options()
+{
+    case $1 in
+    open | close) echo --limit --connectivity --force ;;
+    maxima | record) echo --connectivity --force ;;
+    nodes | sizelist) echo --connectivity ;;
+    cut) echo --limit --force ;;
+    plate) echo --force ;;
+    esac
+}
+
+_livukoe()
+{
+    local word=${COMP_WORDS[COMP_CWORD]} before=${COMP_WORDS[COMP_CWORD - 1]} command=${COMP_WORDS[1]}
+    # bash parts --connectivity=8 at the equals sign
+    [[ $word == = ]] && word=
+    [[ $before == = ]] && before=${COMP_WORDS[COMP_CWORD - 2]}
+    if ((COMP_CWORD == 1)); then
+        COMPREPLY=($(compgen -W "open close maxima nodes record plate cut sizelist help version" -- "$word"))
+    elif [[ $before == --connectivity ]]; then
+        COMPREPLY=($(compgen -W "4 8" -- "$word"))
+    elif [[ $before == --limit ]]; then
+        COMPREPLY=()
+    elif [[ $word == -* ]]; then
+        COMPREPLY=($(compgen -W "$(_livukoe_options "$command")" -- "$word"))
+    else
+        local IFS=$'\n'
+        compopt -o filenames 2>/dev/null
+        COMPREPLY=($(compgen -f -- "$word"))
+    fi
+}
+
+complete -F _livukoe livukoe
