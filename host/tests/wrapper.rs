@@ -170,12 +170,12 @@ fn a_shared_work_space() {
     assert_eq!(shared.pixels(), 0);
     let mut greatest = 0;
     for _ in 0..2_000 {
-        let ticket = chance.ticket(9);
-        let limit = chance.limit(ticket.pixels());
-        let Ok(connectivity) = ticket.connectivity.try_into() else {
+        let job = chance.job(9);
+        let limit = chance.limit(job.pixels());
+        let Ok(connectivity) = job.connectivity.try_into() else {
             continue;
         };
-        let plate = Plate::new(ticket.width, ticket.height, ticket.greys);
+        let plate = Plate::new(job.width, job.height, job.greys);
         let fresh = &mut WorkSpace::for_pixels(plate.greys().len());
         assert_eq!(
             answers(&mut shared, &plate, connectivity, limit),

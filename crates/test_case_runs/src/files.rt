@@ -16,8 +16,8 @@ fn read(bytes: &[u8], out: &mut [u8]) {
 }
 
 fn file(line: &[u8], bytes: &[u8]) {
-    let mut out = [170u8; 66000];
-    let n = places(line, b"out", 66000);
+    let mut out = [170u8; 200];
+    let n = places(line, b"out", 200);
     read(bytes, &mut out[..n]);
 }
 

@@ -46,15 +46,15 @@ fn list_nodes(
     print_columns(levels, parents, areas, anchors);
 }
 
-pub fn nodes(line: &[u8], bytes: &[u8], work: &mut [u32]) {
-    let mut levels = [9u32; 66000];
-    let mut parents = [9u32; 66000];
-    let mut areas = [9u32; 66000];
-    let mut anchors = [9u32; 66000];
-    let a = places(line, b"levels", 66000);
-    let b = places(line, b"parents", 66000);
-    let c = places(line, b"areas", 66000);
-    let d = places(line, b"anchors", 66000);
+fn nodes(line: &[u8], bytes: &[u8], work: &mut [u32]) {
+    let mut levels = [9u32; 200];
+    let mut parents = [9u32; 200];
+    let mut areas = [9u32; 200];
+    let mut anchors = [9u32; 200];
+    let a = places(line, b"levels", 200);
+    let b = places(line, b"parents", 200);
+    let c = places(line, b"areas", 200);
+    let d = places(line, b"anchors", 200);
     list_nodes(
         line,
         bytes,
@@ -66,7 +66,7 @@ pub fn nodes(line: &[u8], bytes: &[u8], work: &mut [u32]) {
     );
 }
 
-pub fn entries(line: &[u8], bytes: &[u8], work: &mut [u32]) {
+fn entries(line: &[u8], bytes: &[u8], work: &mut [u32]) {
     let s = shape_of(line);
     let at = field(line, b"at") as usize;
     test_entries::list_plate(bytes, s.width, s.height, s.connectivity, work, at);
@@ -93,7 +93,7 @@ fn list_sizes(bytes: &[u8], counts: &mut [u32], losses: &mut [u64], work: &mut [
     print_tables(counts, losses);
 }
 
-pub fn sizes(line: &[u8], bytes: &[u8], work: &mut [u32]) {
+fn sizes(line: &[u8], bytes: &[u8], work: &mut [u32]) {
     let mut counts = [9u32; 66000];
     let mut losses = [9u64; 66000];
     let a = places(line, b"counts", 66000);
@@ -143,15 +143,15 @@ fn join(
     print_outputs(record, out, counts, losses);
 }
 
-pub fn joint(line: &[u8], bytes: &[u8], work: &mut [u32]) {
-    let mut record = [170u8; 66000];
-    let mut out = [170u8; 66000];
-    let mut counts = [9u32; 66000];
-    let mut losses = [9u64; 66000];
-    let a = places(line, b"record", 66000);
-    let b = places(line, b"out", 66000);
-    let c = places(line, b"counts", 66000);
-    let d = places(line, b"losses", 66000);
+fn joint(line: &[u8], bytes: &[u8], work: &mut [u32]) {
+    let mut record = [170u8; 1000];
+    let mut out = [170u8; 1000];
+    let mut counts = [9u32; 200];
+    let mut losses = [9u64; 200];
+    let a = places(line, b"record", 1000);
+    let b = places(line, b"out", 1000);
+    let c = places(line, b"counts", 200);
+    let d = places(line, b"losses", 200);
     join(
         line,
         bytes,

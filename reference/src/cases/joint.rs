@@ -25,7 +25,6 @@ pub fn cases(cases: &mut Vec<Case>) {
         }
     }
     short(cases);
-    large(cases);
 }
 
 /// A case with a little excess in every buffer.
@@ -78,13 +77,5 @@ fn short(cases: &mut Vec<Case>) {
             }
             cases.push(case);
         }
-    }
-}
-
-/// A patch of 65,536 pixels.
-fn large(cases: &mut Vec<Case>) {
-    let plate = Plate::new(256, 257, |p| if p < 65_536 { 200 } else { 10 });
-    for limit in [65_536, 65_537] {
-        cases.push(ample(&plate, 4).with("limit", limit));
     }
 }
