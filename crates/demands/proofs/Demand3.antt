@@ -164,5 +164,6 @@ pub demand-3 : {k w h : ℕ} {f : List ℕ} → Plate k w h f → Demand3 k w h 
 demand-3 {k} {w} {h} {f} pl = record {
   writing = writing-is pl;
   cutting = λ out work a b limit l m out′ work′ c d. rw (writing-is pl out work a b .1) (cut-claim pl limit l m out′ work′ c d);
-  listing = λ out work a b counts′ losses′ work′ plain c d e g. rw (writing-is pl out work a b .1) (size-claim pl counts′ losses′ work′ plain c d e g);
+  listing =
+      λ out work a b counts′ losses′ work′ plain c d e g. rw (writing-is pl out work a b .1) (size-claim pl counts′ losses′ work′ plain c d e g);
 }

@@ -78,5 +78,6 @@ pub record Demand3 (k w h : ℕ) (f : List ℕ) : Type 0 where
       → CutClaim k w h f (written k w h f out work) limit out′ work′
   -- and listed
   pub listing : (out work : List ℕ) → length (recordOf k w h f) ≤ length out → 8 * (w * h) ≤ length work
-      → (counts losses work′ plain : List ℕ) → w * h - 1 ≤ length counts → w * h - 1 ≤ length losses → 8 * (w * h) ≤ length work′ → w * h ≤ length plain
+      → (counts losses work′ plain : List ℕ) → w * h - 1 ≤ length counts → w * h - 1 ≤ length losses → 8 * (w * h) ≤ length work′ → w * h ≤ length
+      plain
       → SizeClaim k w h f (written k w h f out work) counts losses work′ plain

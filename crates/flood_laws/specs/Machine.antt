@@ -4,7 +4,7 @@
 --     Labels    labels and paths: what is joined, and that what is closed is complete
 --     Counts    how many pixels each open level has
 --     Names     the pixels' nodes
---     Closed    what the closed nodes hold: area, parent
+--     ClosedNodes    what the closed nodes hold: area, parent
 --     Chain     the open levels, each with the next lower one
 --     Stacks    the pixels whose neighbours are still to be looked at
 use mathlib.Core.Path.{_≡_}
@@ -70,7 +70,7 @@ module _ (n : ℕ) (near : ℕ → ℕ → Bool) (f : ℕ → ℕ) where
     pub parent-seen : parent (own p) < n
 
   -- each pixel whose label has fallen below its grey has a closed node
-  pub record Closed (own lab size parent : ℕ → ℕ) : Type 0 where
+  pub record ClosedNodes (own lab size parent : ℕ → ℕ) : Type 0 where
     pub held : (p : ℕ) → Seen n own p → lab p < f p → Held own size parent p
 
 -- ---- the open levels
@@ -137,7 +137,7 @@ pub record Mach (n : ℕ) (near : ℕ → ℕ → Bool) (f : ℕ → ℕ) (L : �
   pub labels : Labels n near f (Todo n f stk start top c) own lab u
   pub counts : Counts n near f L own lab cnt
   pub names : Names n near f L own lab cnt name k
-  pub closed : Closed n near f own lab size parent
+  pub closed : ClosedNodes n near f own lab size parent
   pub chain : Chain L cnt next u
   pub stacks : Stacks n L f own stk start top c
 

@@ -87,7 +87,8 @@ module _ (limit : ℕ) {n : ℕ} where
           let z : col AREA n w″ i < limit = rw (a .off AREA (omega arith) (λ x. omega arith)) (omega arith) in
           sym (cut-value-no limit n w″ i z ∙ rw y)
 
-  pub cut-more : {w w′ w″ : List ℕ} {count i v : ℕ} → Parents n w count → Cut limit n i w w′ → i < count → v ≡ cutValue limit n w′ i → Stored w′ w″ n VALUE i v
+  pub cut-more : {w w′ w″ : List ℕ} {count i v : ℕ} → Parents n w count → Cut limit n i w w′ → i < count → v ≡ cutValue limit n w′ i
+      → Stored w′ w″ n VALUE i v
       → Cut limit n (i + 1) w w″
   cut-more {w} {w′} {w″} {count} {i} {v} p a l e s =
       let p′ : Parents n w′ count = valued-parents p (a .valued) in

@@ -81,7 +81,8 @@ module _ {negated : Bool} {k wd ht : ℕ} {f v w : List ℕ} {count : ℕ} (p : 
 
   -- the values of pixels, from the values of nodes
   module _ {w′ : List ℕ} (a : Valued n w w′) where
-    value-own : (h : ℕ → ℕ) → ((i : ℕ) → i < count → col VALUE n w′ i ≡ h i) → (q : ℕ) → q < n → col VALUE n w′ (col OWN n w′ q) ≡ h (own n near g xs q)
+    value-own : (h : ℕ → ℕ) → ((i : ℕ) → i < count → col VALUE n w′ i ≡ h i) → (q : ℕ) → q < n
+        → col VALUE n w′ (col OWN n w′ q) ≡ h (own n near g xs q)
     value-own h e q l =
         let o : col OWN n w′ q ≡ own n near g xs q = rw (a .off OWN (omega arith) (λ x. omega arith)) (p .facts .tree .owns q l) in
         rw o (e (own n near g xs q) (own-count q l))
@@ -157,7 +158,8 @@ module _ {k wd ht : ℕ} {f v w : List ℕ} {count : ℕ} (p : PlateTree false k
   child : ℕ → ℕ → Bool
   child j i = ltb 0 i && eqb (col PARENT (n p) w i) j
 
-  childless-maximum : (q : ℕ) → q < n p → T (not (hasChild count (col PARENT (n p) w) (own (n p) (near p) (g p) (xs p) q))) → T (maximum (n p) (near p) (g p) q)
+  childless-maximum : (q : ℕ) → q < n p → T (not (hasChild count (col PARENT (n p) w) (own (n p) (near p) (g p) (xs p) q)))
+      → T (maximum (n p) (near p) (g p) q)
   unfolding hasChild child
   childless-maximum q l t =
       leaf-maximum (p .facts .grid) (p .facts .nodes) q l
@@ -167,7 +169,8 @@ module _ {k wd ht : ℕ} {f v w : List ℕ} {count : ℕ} (p : PlateTree false k
       let here : T (child o i) = both (ltb 0 i) (eqb (col PARENT (n p) w i) o) (lt→ltb 0 i z) (rw x (eqb-refl o)) in
       T-not (hasChild count (col PARENT (n p) w) o) t (some-intro count (child o) i (below-length p i m) here))
 
-  maximum-childless : (q : ℕ) → q < n p → T (maximum (n p) (near p) (g p) q) → T (not (hasChild count (col PARENT (n p) w) (own (n p) (near p) (g p) (xs p) q)))
+  maximum-childless : (q : ℕ) → q < n p → T (maximum (n p) (near p) (g p) q)
+      → T (not (hasChild count (col PARENT (n p) w) (own (n p) (near p) (g p) (xs p) q)))
   unfolding hasChild child
   maximum-childless q l t =
       let o : ℕ = own (n p) (near p) (g p) (xs p) q in
@@ -211,7 +214,8 @@ module _ {k w h : ℕ} {f : List ℕ} {refusal r : ℕ} {answer out work : List 
   answered-refused x = record { number = e; output = rw (ne-eqb r 0 x); space = rw (ne-eqb r 0 x); accepted = λ z. absurd (x z) }
 
   -- an answer
-  pub answered : {negated : Bool} {out′ w₁ w₂ : List ℕ} → r ≡ 0 → Plate k w h f → Frame (length f) work w₁ → Delivered negated (length f) w₁ w₂ out out′
+  pub answered : {negated : Bool} {out′ w₁ w₂ : List ℕ} → r ≡ 0 → Plate k w h f → Frame (length f) work w₁
+      → Delivered negated (length f) w₁ w₂ out out′
       → table (length f) (outValue negated (length f) w₁) ≡ answer → PlateAnswered k w h f refusal answer out out′ work w₂ 0
   answered z plate a d t = record {
     number = sym z ∙ e;

@@ -12,7 +12,7 @@ use Rattle.meaning.specs.Cut.{darkest}
 use Rattle.meaning.specs.Nodes.{anchors, nodesOf}
 use Rattle.meaning.specs.Plate.{greatestGrey, touch}
 use Rattle.work_columns.specs.Columns.{Room}
-use Rattle.work_columns.proofs.Columns.{frame-trans}
+use Rattle.work_columns.proofs.Columns.{cleared, frame-trans}
 use Rattle.theory_connectivity.proofs.Sizes.{grid-sizes}
 use Rattle.theory_lists.proofs.Tests.{neither, passes, tests}
 use Rattle.plate_refusals.proofs.Refusals.{refuse-none}
@@ -20,7 +20,7 @@ use Rattle.record_parse.specs.Parse.{Parsed}
 use Rattle.record_parse.specs.Steps.{greysIn}
 use Rattle.record_cut.specs.Standing.{CutWritten, OfPlate, SizesWritten, Stands, TablesFit}
 use Rattle.record_tree.specs.Found.{GreysStand}
-use Rattle.record_tree.proofs.Finding.{TreeFound, cleared}
+use Rattle.record_tree.proofs.Finding.{TreeFound}
 use Rattle.record.specs.Reading.{CutRecord, ListedSizes, ReadRecord}
 
 module _ {P : Parsed} {wd ht k count : ℕ} {work w₁ : List ℕ} (t : TreeFound P wd ht k work w₁ count) where
@@ -57,7 +57,8 @@ module _ {P : Parsed} {wd ht k count : ℕ} {work w₁ : List ℕ} (t : TreeFoun
 
   -- ---- cutting
 
-  module _ {limit r : ℕ} (out : List ℕ) (e : r ≡ refuse (not (leb 1 limit && leb limit (wd * ht))) 4 (outRefusal (wd * ht) (length out) 0)) (z : r ≡ 0) where
+  module _ {limit r : ℕ} (out : List ℕ) (e : r ≡ refuse (not (leb 1 limit && leb limit (wd * ht))) 4 (outRefusal (wd * ht) (length out) 0))
+      (z : r ≡ 0) where
     pub cut-fits : (limit ≤ wd * ht) × (wd * ht ≤ length out)
     cut-fits =
         let later : ℕ = outRefusal (wd * ht) (length out) 0 in
@@ -98,7 +99,8 @@ module _ {P : Parsed} {wd ht k count : ℕ} {work w₁ : List ℕ} (t : TreeFoun
 
     pub sizes-done : {counted′ lost′ w₂ : List ℕ} {d : ℕ} → SizesWritten (wd * ht) count w₁ counted counted′ lost lost′
         → ((m : ℕ) → OfPlate (wd * ht) w₁ m (λ k wd f. d ≡ darkest f)) → w₂ ≡ replicate (8 * (wd * ht)) 0 ++ drop (8 * (wd * ht)) w₁
-        → ListedSizes P counted counted′ lost lost′ work w₂ (record { refusal = 0; width = wd; height = ht; connectivity = k; nodes = count; darkest = d })
+        → ListedSizes P counted counted′ lost lost′ work w₂
+        (record { refusal = 0; width = wd; height = ht; connectivity = k; nodes = count; darkest = d })
     sizes-done s d c =
         let nodes : count ≡ length (nodesOf k wd f) = tree-nodes in
         let dark = d count k wd ht f (t .standing) long in

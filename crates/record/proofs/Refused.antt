@@ -12,12 +12,12 @@ use types.Run.{OneOf}
 use denote.Enum.Declared.{tagOf}
 use Rattle.meaning.specs.Answers.{outRefusal, refuse, workAfter}
 use Rattle.work_columns.specs.Columns.{Frame}
+use Rattle.work_columns.proofs.Columns.{cleared}
 use Rattle.record_parse.specs.Parse.{Parsed, early, late, plate}
 use Rattle.record_tree.specs.declared.Found.{Found}
 use Rattle.record_tree.proofs.Found.{the-type}
 use Rattle.record_tree.specs.declared.Found.the-variants.{Early, Late, Tree}
 use Rattle.record_tree.specs.Found.{FoundIs, clearedBy, foundNumber}
-use Rattle.record_tree.proofs.Finding.{cleared}
 use Rattle.record.specs.declared.Head.{Head}
 use Rattle.record.specs.declared.SizeHead.{SizeHead}
 use Rattle.record.specs.Reading.{CutRecord, ListedSizes, ReadRecord}
@@ -40,7 +40,8 @@ pub data Stopped : Parsed → List ℕ → List ℕ → ℕ → Type 0 where
   unchanged : {work : List ℕ} {number : ℕ} → Stopped (early number) work work number
   zeroed : {work work′ : List ℕ} {number pixels : ℕ} → work′ ≡ workAfter true pixels work → Stopped (late number pixels) work work′ number
 
-pub stopped : {P : Parsed} (t : Found) {work w₁ w₂ : List ℕ} {number : ℕ} → FoundIs P work w₁ t → NoTree t → number ≡ foundNumber t → w₂ ≡ clearedBy t w₁
+pub stopped : {P : Parsed} (t : Found) {work w₁ w₂ : List ℕ} {number : ℕ} → FoundIs P work w₁ t → NoTree t → number ≡ foundNumber t
+    → w₂ ≡ clearedBy t w₁
     → Stopped P work w₂ number
 stopped (Early m) x other e c = rw (← (x .answer), e, c, x .space) unchanged
 stopped (Late m pixels) x other e c = rw (← (x .answer), e) (zeroed (cleared (x .space .1) c))
@@ -48,7 +49,8 @@ stopped (Tree wd ht k count) x other e c =
     let m : (_≡_ {A = ℕ} 2 0) ⊎ (_≡_ {A = ℕ} 2 1) = other in
     absurd (⊎-elim (λ z. omega arith) (λ z. omega arith) m)
 
-pub read-stopped : {P : Parsed} {work w₂ : List ℕ} {number : ℕ} (out : List ℕ) → Stopped P work w₂ number → ReadRecord P out out work w₂ (noHead number)
+pub read-stopped : {P : Parsed} {work w₂ : List ℕ} {number : ℕ} (out : List ℕ) → Stopped P work w₂ number
+    → ReadRecord P out out work w₂ (noHead number)
 read-stopped out unchanged = record { answer = refl; output = refl; space = refl }
 read-stopped out (zeroed c) = record { answer = refl; output = refl; space = c }
 

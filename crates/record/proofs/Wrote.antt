@@ -11,9 +11,9 @@ use Rattle.meaning.specs.Record.{recordOf}
 use Rattle.plate_refusals.proofs.Refusals.{Listable, tree-early, tree-first, tree-later, plate-later}
 use Rattle.plate_greys.specs.Standing.{Standing}
 use Rattle.plate_greys.specs.Tree.{PlateTree, Ready}
+use Rattle.work_columns.proofs.Columns.{cleared}
 use Rattle.record_parse.specs.Steps.{greysIn}
 use Rattle.record_fields.proofs.Standing.{standing-here, standing-plate}
-use Rattle.record_tree.proofs.Finding.{cleared}
 use Rattle.record.specs.Writing.{WrittenRecord, writeAnswer, writeOut, writeRefusal, writeWork}
 
 -- a refusal by 1, 2, 3 or 6

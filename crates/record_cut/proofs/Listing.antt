@@ -44,7 +44,8 @@ zeros-there d m e = e ∙ sym (over-zeros d m (λ (j : ℕ). 0) e)
 -- a node's loss is small
 pub loss-low : {n : ℕ} {w : List ℕ} {j : ℕ} → Room w n → Inner n w j → lossOf n w j ≤ 4278190080
 loss-low {n} {w} {j} r a =
-    mul-le-mul {n₁ = col AREA n w j} {m₁ = col LEVEL n w j - col LEVEL n w (col PARENT n w j)} {n₂ = 16777216} {m₂ = 255} (omega (arith, a .not-all, r .small))
+    mul-le-mul {n₁ = col AREA n w j} {m₁ = col LEVEL n w j - col LEVEL n w (col PARENT n w j)} {n₂ = 16777216} {m₂ = 255}
+    (omega (arith, a .not-all, r .small))
     (omega (arith, a .level))
 
 -- from the entries that are read
@@ -72,7 +73,12 @@ module _ {n count : ℕ} {w : List ℕ} (can : SizesListable n w count) (v : ℕ
     first = omega arith;
     bound = can .some-nodes;
     len = refl;
-    made = e ∙ rw (length-table {X = ℕ} (n - 1) (λ (i : ℕ). 0), tallies-first (col AREA n w) v (n - 1) (omega (arith, can .whole, can .some-nodes, can .few)));
+    made =
+        e ∙ rw (
+          length-table {X = ℕ} (n - 1) (λ (i : ℕ). 0),
+          tallies-first (col AREA n w) v (n - 1)
+              (omega (arith, can .whole, can .some-nodes, can .few)),
+        );
   }
 
   pub tallying-done : {t t′ : List ℕ} {j : ℕ} → Tallying n count w v t t′ j → count ≤ j → t′ ≡ over (byArea n w v count) t

@@ -81,7 +81,8 @@ module _ (c v : ℕ → ℕ) where
 pub tally-one : (c : ℕ → ℕ) (k a : ℕ) → tally c (λ (j : ℕ). 1) k a ≡ area k (λ (j : ℕ). eqb (c j) a)
 unfolding tally
 tally-one c k a =
-    sum-cong k (λ (j : ℕ). pick (eqb (c j) a) 1 0) (λ (j : ℕ). bit (eqb (c j) a)) (λ j l. same (eqb (c j) a)) ∙ sym (area-sum k (λ (j : ℕ). eqb (c j) a))
+    sum-cong k (λ (j : ℕ). pick (eqb (c j) a) 1 0) (λ (j : ℕ). bit (eqb (c j) a)) (λ j l. same (eqb (c j) a))
+    ∙ sym (area-sum k (λ (j : ℕ). eqb (c j) a))
   where
     same : (b : Bool) → pick b 1 0 ≡ bit b
     same true = refl

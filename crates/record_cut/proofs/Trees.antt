@@ -181,13 +181,15 @@ module _ {k wd ht : ℕ} {f w : List ℕ} {count : ℕ} (s : Standing k wd ht f 
   pub listed-counts : byArea n w (λ (j : ℕ). 1) count ≡ counts k wd f
   unfolding counts countAt areaOf
   listed-counts =
-      table-same (n - 1) (λ (i : ℕ). tally (col AREA n w) (λ (j : ℕ). 1) count (suc i)) (λ (i : ℕ). countAt n near (grey f) xs (attribute n) (suc i)) (λ i l.
+      table-same (n - 1) (λ (i : ℕ). tally (col AREA n w) (λ (j : ℕ). 1) count (suc i))
+      (λ (i : ℕ). countAt n near (grey f) xs (attribute n) (suc i)) (λ i l.
       tally-cong (col AREA n w) (λ (j : ℕ). 1) (areaOf n near (grey f) xs) (λ (j : ℕ). 1) count (suc i) (λ j h. rw (area-is j h))
       ∙ rw count-is (tally-one (areaOf n near (grey f) xs) (length xs) (suc i)))
 
   -- the grey lost at each area
   loss-same : (a : ℕ) → a < n → (j : ℕ) → j < count
-      → pick (eqb (col AREA n w j) a) (lossOf n w j) 0 ≡ pick (eqb (areaOf n near (grey f) xs j) a) (areaOf n near (grey f) xs j * rise n near (grey f) xs j) 0
+      → pick (eqb (col AREA n w j) a) (lossOf n w j) 0 ≡ pick (eqb (areaOf n near (grey f) xs j) a)
+      (areaOf n near (grey f) xs j * rise n near (grey f) xs j) 0
   unfolding rise
   loss-same a h zero l =
       pick-no (eqb (col AREA n w 0) a) (lossOf n w 0) 0 (λ t. omega (arith, whole, eqb→eq (col AREA n w 0) a t))
@@ -200,7 +202,8 @@ module _ {k wd ht : ℕ} {f w : List ℕ} {count : ℕ} (s : Standing k wd ht f 
   pub listed-losses : byArea n w (lossOf n w) count ≡ losses k wd f
   unfolding losses tally
   listed-losses =
-      table-same (n - 1) (λ (i : ℕ). tally (col AREA n w) (lossOf n w) count (suc i)) (λ (i : ℕ). lostAt n near (grey f) xs (attribute n) (suc i)) (λ i l.
+      table-same (n - 1) (λ (i : ℕ). tally (col AREA n w) (lossOf n w) count (suc i)) (λ (i : ℕ). lostAt n near (grey f) xs (attribute n) (suc i))
+      (λ i l.
       tally-cong (col AREA n w) (lossOf n w) (areaOf n near (grey f) xs) (λ (j : ℕ). areaOf n near (grey f) xs j * rise n near (grey f) xs j) count (suc i)
       (loss-same (suc i) (omega arith))
       ∙ rw count-is (sym (lost-is-sum (s .plate) (suc i) (omega arith))))

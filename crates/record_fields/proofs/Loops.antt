@@ -12,7 +12,8 @@ use Rattle.meaning.specs.Answers.{over}
 use Rattle.meaning.specs.Record.{encode, recordOf, varint}
 use Rattle.meaning.specs.Sets.{nth}
 use Rattle.record_varint.specs.Field.{comparison, sameAt}
-use Rattle.record_varint.proofs.Loops.{Matched, Measured, Wrote, matched-differs, matched-done, matched-first, matched-more, measured-done, measured-first, measured-more, wrote-done, wrote-first, wrote-more, wrote-room}
+use Rattle.record_varint.proofs.Loops.{Matched, Measured, Wrote, matched-differs, matched-done, matched-first, matched-more, measured-done}
+use Rattle.record_varint.proofs.Loops.{measured-first, measured-more, wrote-done, wrote-first, wrote-more, wrote-room}
 use Rattle.record_parse.specs.Parse.{sameBytes}
 use Rattle.plate_greys.specs.Standing.{Standing}
 use Rattle.record_parse.specs.Steps.{greysIn}

@@ -27,7 +27,8 @@ took s at lo hi {f} {v} {next} e is =
     record { read = r; low = a .low; high = a .high }
 
 -- the field is refused, with the number that the answer gives
-pub stopped : {g : Reading} {f : Field} {fault : Fault} {number : ℕ} → reading f ≡ g → f ≡ Refused fault → number ≡ refusalOf (reading f) → g ≡ refused number
+pub stopped : {g : Reading} {f : Field} {fault : Fault} {number : ℕ} → reading f ≡ g → f ≡ Refused fault → number ≡ refusalOf (reading f)
+    → g ≡ refused number
 stopped {f = f} {fault} e told is = sym e ∙ ap reading told ∙ ap refused (sym (is ∙ ap (λ (x : Field). refusalOf (reading x)) told))
 
 -- one value more

@@ -53,7 +53,8 @@ module _ {s : List ℕ} {at n : ℕ} {w : List ℕ} {i : ℕ} (k : Known n w i) 
     pub rise-fits : level + rise ≤ greatestGrey
     rise-fits = omega (arith, level-fits, b .high)
 
-    pub node-stores : {w′ : List ℕ} {area at₃ : ℕ} → Took s at₂ 1 n area at₃ → i < n → Stored w w′ n LEVEL i (level + rise) → NodeRead s at n w w′ i (Next at₃)
+    pub node-stores : {w′ : List ℕ} {area at₃ : ℕ} → Took s at₂ 1 n area at₃ → i < n → Stored w w′ n LEVEL i (level + rise)
+        → NodeRead s at n w w′ i (Next at₃)
     unfolding levelsFrom
     node-stores {w′} {area} {at₃} d l t = record {
       frame = t .frame;

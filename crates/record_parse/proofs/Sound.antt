@@ -11,7 +11,8 @@ use Rattle.meaning.specs.Plate.{Plate, connectivityFits, greatestGrey, gridFits
 use Rattle.meaning.specs.Sets.{nth, pick}
 use Rattle.record_varint.specs.Field.{Reading, accepted, fieldAt, fieldBound, refused}
 use Rattle.record_varint.proofs.Reading.{field-read}
-use Rattle.record_parse.specs.Parse.{Parsed, Values, bad, early, fromConnectivity, fromCount, fromHeight, fromOwn, fromRoot, good, greysFrom, lateOf, levelsFrom, more, onField, onValue, onValues, parse, plate}
+use Rattle.record_parse.specs.Parse.{Parsed, Values, bad, early, fromConnectivity, fromCount, fromHeight, fromOwn, fromRoot, good, greysFrom}
+use Rattle.record_parse.specs.Parse.{lateOf, levelsFrom, more, onField, onValue, onValues, parse, plate}
 
 -- ---- what went on was not refused
 
@@ -73,14 +74,17 @@ greys-snoc none l = one l none
 greys-snoc (one h a) l = one h (greys-snoc a l)
 
 module _ (s : List ℕ) (pixels : ℕ) where
-  levels-greys : (left : ℕ) (levels : List ℕ) (at : ℕ) (vs : List ℕ) (q : ℕ) → AllGreys levels → levelsFrom s pixels left levels at ≡ good vs q → AllGreys vs
+  levels-greys : (left : ℕ) (levels : List ℕ) (at : ℕ) (vs : List ℕ) (q : ℕ) → AllGreys levels → levelsFrom s pixels left levels at ≡ good vs q
+      → AllGreys vs
   unfolding levelsFrom
   levels-greys zero levels at vs q g e = let is : levels ≡ vs = cc in rw is at g
   levels-greys (suc left) levels at vs q g e =
       let back = on-value (fieldAt s at 1 (length levels)) _ vs q e in
       let level = nth levels (length levels - back .v) in
       let rise = on-value (fieldAt s (back .next) 1 (greatestGrey - level)) _ vs q (back .rest) in
-      let area = on-value (fieldAt s (rise .next) 1 pixels) (λ area at₃. levelsFrom s pixels left (levels ++ ((level + rise .v) ∷ [])) at₃) vs q (rise .rest) in
+      let area =
+      on-value (fieldAt s (rise .next) 1 pixels) (λ area at₃. levelsFrom s pixels left (levels ++ ((level + rise .v) ∷ [])) at₃) vs q
+      (rise .rest) in
       let high = field-read s (back .next) 1 (greatestGrey - level) (rise .v) (rise .next) (rise .read) .high in
       let low : level ≤ greatestGrey = greys-nth (length levels - back .v) g in
       levels-greys left (levels ++ ((level + rise .v) ∷ [])) (area .next) vs q (greys-snoc g (omega arith)) (area .rest)
@@ -118,10 +122,12 @@ spelt-plate {f = f} r work kind sizes room = (
 )
 
 module _ (s : List ℕ) (k w h : ℕ) (f : List ℕ) where
-  own-plate : (k′ w′ h′ : ℕ) (levels : List ℕ) (at : ℕ) → AllGreys levels → fromOwn s k′ w′ h′ levels at ≡ plate k w h f → PlateRead k′ w′ h′ k w h f
+  own-plate : (k′ w′ h′ : ℕ) (levels : List ℕ) (at : ℕ) → AllGreys levels → fromOwn s k′ w′ h′ levels at ≡ plate k w h f
+      → PlateRead k′ w′ h′ k w h f
   own-plate k′ w′ h′ levels at g e =
       let vs = on-values k w h f (greysFrom s (w′ * h′) levels (w′ * h′) at) (lateOf (w′ * h′)) _ (late-refuses (w′ * h′)) e in
-      let end = on-test k w h f (ltb (vs .1 .0) (length s)) (lateOf (w′ * h′)) 23 (plate k′ w′ h′ (vs .0)) (late-refuses (w′ * h′)) (vs .1 .1 .1) in
+      let end =
+      on-test k w h f (ltb (vs .1 .0) (length s)) (lateOf (w′ * h′)) 23 (plate k′ w′ h′ (vs .0)) (late-refuses (w′ * h′)) (vs .1 .1 .1) in
       let a = owns-greys s (w′ * h′) levels (w′ * h′) at (vs .0) (vs .1 .0) g (vs .1 .1 .0) in
       let is : vs .0 ≡ f = cc (end .1) in
       let b : AllGreys f × (length f ≡ w′ * h′) = rw is at a in

@@ -30,7 +30,8 @@ pub record Rooted (s : List ℕ) (at n count level next : ℕ) : Type 0 where
   pub low : level ≤ greatestGrey
   pub parsed : (k wd ht : ℕ) → wd * ht ≡ n → fromRoot s k wd ht count at ≡ fromNodes s k wd ht count level next
 
-pub rooted : {s : List ℕ} {at n count level at₁ area next : ℕ} → Took s at 0 greatestGrey level at₁ → Took s at₁ 1 n area next → Rooted s at n count level next
+pub rooted : {s : List ℕ} {at n count level at₁ area next : ℕ} → Took s at 0 greatestGrey level at₁ → Took s at₁ 1 n area next
+    → Rooted s at n count level next
 rooted a b = record { low = a .high; parsed = λ k wd ht pixels. rw (a .read, pixels, b .read) }
 
 module _ {s : List ℕ} {at n count level next : ℕ} (t : Rooted s at n count level next) {w w₁ : List ℕ} (st : Stored w w₁ n LEVEL 0 level) where

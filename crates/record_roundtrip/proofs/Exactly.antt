@@ -12,7 +12,8 @@ use Rattle.meaning.specs.Record.{recordOf, varint}
 use Rattle.meaning.specs.Sets.{nth, pick}
 use Rattle.theory_lists.proofs.Tests.{both-true, passes}
 use Rattle.record_varint.specs.Field.{Reading, accepted, continued, fieldAt, fieldBound, fieldOf, refused, starts, value}
-use Rattle.record_parse.specs.Parse.{Parsed, Values, bad, compared, early, fromConnectivity, fromCount, fromHeight, fromNodes, fromOwn, fromRoot, good, greysFrom, late, lateOf, levelsFrom, more, onField, onValue, onValues, parse, plate, readOf, sameBytes}
+use Rattle.record_parse.specs.Parse.{Parsed, Values, bad, compared, early, fromConnectivity, fromCount, fromHeight, fromNodes, fromOwn, fromRoot}
+use Rattle.record_parse.specs.Parse.{good, greysFrom, late, lateOf, levelsFrom, more, onField, onValue, onValues, parse, plate, readOf, sameBytes}
 use Rattle.record_parse.proofs.Sound.{parse-plate}
 
 -- ---- a refusal's number is not 0

@@ -117,9 +117,11 @@ module _ {k w h : ℕ} {f : List ℕ} (pl : Plate k w h f) (s : List ℕ) where
       let r₂ : fieldAt s at₁ 1 (greatestGrey - nth lv (length lv - back)) ≡ accepted rise at₂ =
       encode-read s at₁ rise (size i ∷ rest) [] st₁ 1 (greatestGrey - nth lv (length lv - back)) (omega arith) (omega arith) (omega arith) in
       let st₂ : EncodedAt s at₂ (size i ∷ rest) = encode-rest s at₁ rise (size i ∷ rest) [] st₁ in
-      let r₃ : fieldAt s at₂ 1 n ≡ accepted (size i) at₃ = encode-read s at₂ (size i) rest [] st₂ 1 n (omega (arith, few, area)) (area .0) (area .1) in
+      let r₃ : fieldAt s at₂ 1 n ≡ accepted (size i) at₃ =
+      encode-read s at₂ (size i) rest [] st₂ 1 n (omega (arith, few, area)) (area .0) (area .1) in
       let sum : nth lv (length lv - back) + rise ≡ level i = omega arith in
-      let grown : lv ++ ((nth lv (length lv - back) + rise) ∷ []) ≡ table (suc i) level = ap (λ (x : ℕ). lv ++ (x ∷ [])) sum ∙ sym (table-suc level i) in
+      let grown : lv ++ ((nth lv (length lv - back) + rise) ∷ []) ≡ table (suc i) level =
+      ap (λ (x : ℕ). lv ++ (x ∷ [])) sum ∙ sym (table-suc level i) in
       record {
         next = at₃;
         reads = rw (r₁, r₂, r₃, grown);
@@ -254,11 +256,13 @@ module _ {k w h : ℕ} {f : List ℕ} (pl : Plate k w h f) where
       encode-read bytes at₄ root (w * h ∷ fields-nodes) [] st₄ 0 greatestGrey (omega arith) (omega arith) dark in
       let st₅ : EncodedAt bytes at₅ (w * h ∷ fields-nodes) = encode-rest bytes at₄ root (w * h ∷ fields-nodes) [] st₄ in
       let r₆ : fieldAt bytes at₅ 1 (w * h) ≡ accepted (w * h) at₆ =
-      encode-read bytes at₅ (w * h) fields-nodes [] st₅ 1 (w * h) (omega (arith, sz .few-pixels)) (omega (arith, plate-some pl, pl .long)) (le-refl (w * h)) in
+      encode-read bytes at₅ (w * h) fields-nodes [] st₅ 1 (w * h) (omega (arith, sz .few-pixels)) (omega (arith, plate-some pl, pl .long))
+      (le-refl (w * h)) in
       let st₆ : EncodedAt bytes at₆ fields-nodes = encode-rest bytes at₅ (w * h) fields-nodes [] st₅ in
       let thr = levels-there pl bytes (count - 1) 1 at₆ fields-own (omega (arith, some-nodes)) (omega arith) st₆ in
       let spl = greys-there pl bytes (length f) 0 (thr .next) (zero-add (length f)) (thr .stands) in
-      let r₇ : levelsFrom bytes (w * h) (count - 1) (root ∷ []) at₆ ≡ good (table count (levelOf (length f) (touch k w) (grey f) (nodesOf k w f))) (thr .next) =
+      let r₇ : levelsFrom bytes (w * h) (count - 1) (root ∷ []) at₆ ≡ good (table count (levelOf (length f) (touch k w) (grey f) (nodesOf k w f)))
+      (thr .next) =
       ap (λ (m : ℕ). levelsFrom bytes m (count - 1) (root ∷ []) at₆) (sym (pl .long)) ∙ thr .reads in
       let r₈ : greysFrom bytes (w * h) (table count (levelOf (length f) (touch k w) (grey f) (nodesOf k w f))) (w * h) (thr .next) ≡ good f (spl .next) =
       ap (λ (m : ℕ). greysFrom bytes m (table count (levelOf (length f) (touch k w) (grey f) (nodesOf k w f))) m (thr .next)) (sym (pl .long))

@@ -2,17 +2,16 @@
 use mathlib.Core.Path.{_≡_, refl, sym, ap, _∙_}
 use mathlib.Core.Bool.{true, false}
 use mathlib.Core.Logic.{_⊎_, ⊎-elim}
-use mathlib.Core.List.{List, [], _∷_, _++_}
+use mathlib.Core.List.{List, [], _∷_}
 use Prim.Native.Nat.{ℕ, _*_, _≤_, _<_}
 use native.Mathlib.Omega.{arith}
-use lib.ListN.{length, drop, replicate}
+use lib.ListN.{length}
 use types.Run.{OneOf}
 use denote.Enum.Declared.{tagOf}
 use Rattle.record_parse.specs.declared.Parse.{Parse}
 use Rattle.record_parse.proofs.Parse.{the-type}
 use Rattle.record_tree.specs.declared.Found.{Found}
 use Rattle.record_tree.specs.declared.Found.the-variants.{Early, Late, Tree}
-use Rattle.meaning.specs.Answers.{workAfter}
 use Rattle.meaning.specs.Plate.{Plate, grey}
 use Rattle.meaning.specs.Record.{recordOf}
 use Rattle.work_columns.specs.Columns.{Frame, Room, col}
@@ -29,12 +28,6 @@ use Rattle.record_parse.proofs.Sound.{parse-plate}
 use Rattle.record_parse.specs.Steps.{ParsedWork, greysIn, parsedBy}
 use Rattle.record_fields.proofs.Standing.{standing-here, standing-plate}
 use Rattle.record_tree.specs.Found.{Clearable, FoundIs, unspeltOf}
-
--- ---- the work space
-
--- the eight columns zeroed after they have changed
-pub cleared : {n : ℕ} {w w′ w″ : List ℕ} → Frame n w w′ → w″ ≡ replicate (8 * n) 0 ++ drop (8 * n) w′ → w″ ≡ workAfter true n w
-cleared {n} f e = e ∙ ap (λ (t : List ℕ). replicate (8 * n) 0 ++ t) (f .tail)
 
 -- ---- a record that is no plate's
 
@@ -135,7 +128,8 @@ pub record TreeFound (P : Parsed) (wd ht k : ℕ) (w w′ : List ℕ) (count : �
   pub frame : Frame (wd * ht) w w′
   pub standing : Standing k wd ht (greysIn (wd * ht) w′) w′ count
 
-pub tree-found : {P : Parsed} {w w′ : List ℕ} {t : Found} {wd ht k count : ℕ} → FoundIs P w w′ t → t ≡ Tree wd ht k count → TreeFound P wd ht k w w′ count
+pub tree-found : {P : Parsed} {w w′ : List ℕ} {t : Found} {wd ht k count : ℕ} → FoundIs P w w′ t → t ≡ Tree wd ht k count
+    → TreeFound P wd ht k w w′ count
 tree-found {P} {w} {w′} {wd = wd} {ht = ht} {k = k} {count = count} x is =
     let y : FoundIs P w w′ (Tree wd ht k count) = rw is at x in
     record { is = sym (y .answer); frame = y .space .0; standing = y .space .1 }

@@ -115,7 +115,8 @@ module _ (s : List ℕ) (at v : ℕ) (vs r : List ℕ) (stands : drop at s ≡ e
   -- and after it stand those of the others
   pub encode-rest : drop (at + length (varint v)) s ≡ encode vs ++ r
   encode-rest =
-      sym (drop-drop (length (varint v)) at s) ∙ ap (λ (l : List ℕ). drop (length (varint v)) l) first-form ∙ drop-append-seam (varint v) (encode vs ++ r)
+      sym (drop-drop (length (varint v)) at s) ∙ ap (λ (l : List ℕ). drop (length (varint v)) l) first-form
+      ∙ drop-append-seam (varint v) (encode vs ++ r)
 
 -- a number that was accepted, before the forms of others
 pub accepted-encode : (s : List ℕ) (at lo hi v next : ℕ) (vs r : List ℕ) → Accepted s at lo hi v next → drop next s ≡ encode vs ++ r

@@ -80,7 +80,8 @@ module _ (s : List ℕ) (at end : ℕ) (h : end < length s) (ends : end ≡ at +
   unfolding cap
   spelt-small i v most p more = omega (arith, p .few, cap-more (suc (end - i)) 4 (omega arith))
 
-  pub spelt-back : (i v b : ℕ) → Bytes s → FieldSpelt s at end i v → at < i → b ≡ getD s (i - 1) 0 → FieldSpelt s at end (i - 1) (v * 128 + (b - 128))
+  pub spelt-back : (i v b : ℕ) → Bytes s → FieldSpelt s at end i v → at < i → b ≡ getD s (i - 1) 0
+      → FieldSpelt s at end (i - 1) (v * 128 + (b - 128))
   unfolding cap
   spelt-back i v b bytes p more is =
       let high : 128 ≤ getD s (i - 1) 0 = top-set (i - 1) (omega arith) (omega (arith, p .to)) in

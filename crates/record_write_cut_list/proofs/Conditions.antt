@@ -39,7 +39,8 @@ chain-none true true true true false true g x = absurd (omega arith)
 chain-none true true true true false false g x = (x, refl)
 
 -- ahead of 6: a number that is neither 0 nor 6 stays when one more test is looked at beside that of the output
-chain-stays : (a b c d o s g : Bool) → (chain a b c d o g 0 ≡ 0 → ⊥) → (chain a b c d o g 0 ≡ 6 → ⊥) → chain a b c d o g 0 ≡ chain a b c d (o || s) g 0
+chain-stays : (a b c d o s g : Bool) → (chain a b c d o g 0 ≡ 0 → ⊥) → (chain a b c d o g 0 ≡ 6 → ⊥)
+    → chain a b c d o g 0 ≡ chain a b c d (o || s) g 0
 chain-stays false b c d o s g x y = refl
 chain-stays true false c d o s g x y = refl
 chain-stays true true false d o s g x y = refl

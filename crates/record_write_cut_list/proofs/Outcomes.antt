@@ -39,7 +39,8 @@ prefix : (b : Bool) (answer out : List ℕ) → pick b (length answer) 0 ≤ len
 prefix true answer out = omega (arith, length-append answer (drop (length answer) out))
 prefix false answer out = omega arith
 
-pub written-within : {k w h : ℕ} {f out out′ work work′ : List ℕ} {r : Written} → WrittenRecord k w h f out out′ work work′ r → r .length ≤ length out′
+pub written-within : {k w h : ℕ} {f out out′ work work′ : List ℕ} {r : Written} → WrittenRecord k w h f out out′ work work′ r
+    → r .length ≤ length out′
 unfolding writeAnswer writeOut
 written-within {k} {w} {h} {f} {out} {out′} {work} {work′} {r} d =
     rw (d .answer, d .output) (prefix (eqb (writeRefusal k w h f out work) 0) (recordOf k w h f) out)
@@ -115,7 +116,8 @@ module _ (k w h limit : ℕ) (f bytes out counted lost work : List ℕ) {e : ℕ
       number-is = ap (λ (a : Written). a .refusal) (d .answer)
 
       -- 5: the record needs more bytes
-      pub listed-short : (r .refusal ≡ 0 → ⊥) → WrittenCutListed k w h limit f bytes bytes₁ out out counted counted lost lost work w₁ (refusedBy (r .refusal))
+      pub listed-short : (r .refusal ≡ 0 → ⊥)
+          → WrittenCutListed k w h limit f bytes bytes₁ out out counted counted lost lost work w₁ (refusedBy (r .refusal))
       unfolding writeCutListAnswer writeOut writeWork
       listed-short x =
           let is-five : writeRefusal k w h f bytes work ≡ 5 =

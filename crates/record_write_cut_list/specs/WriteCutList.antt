@@ -61,12 +61,14 @@ pub record AtLimit (k w h limit : ℕ) (f g counted lost : List ℕ) (dark : ℕ
   pub whole : sum (w * h - 1) (nth lost) + dark * (w * h) ≡ total f
 
 -- the contract: the answer, the outputs and the work space; where nothing is refused, an accepted plate, its greys bytes among the rest, and the claim
-pub record WrittenCutListed (k w h limit : ℕ) (f bytes bytes′ out out′ counted counted′ lost lost′ work work′ : List ℕ) (r : CutListed) : Type 0 where
-  pub answer : r ≡ writeCutListAnswer k w h limit f bytes out counted lost work
-  pub written : bytes′ ≡ outAfter (writeCutListRefusal k w h limit f bytes out counted lost work) (recordOf k w h f) bytes
-  pub cut-plate : out′ ≡ outAfter (writeCutListRefusal k w h limit f bytes out counted lost work) (cut k w limit f) out
-  pub count-table : counted′ ≡ outAfter (writeCutListRefusal k w h limit f bytes out counted lost work) (counts k w f) counted
-  pub loss-table : lost′ ≡ outAfter (writeCutListRefusal k w h limit f bytes out counted lost work) (losses k w f) lost
-  pub space : work′ ≡ workAfter (workBegins k w h limit f bytes out counted lost work) (w * h) work
-  pub accepted : writeCutListRefusal k w h limit f bytes out counted lost work ≡ 0 → Plate k w h f
-  pub claim : writeCutListRefusal k w h limit f bytes out counted lost work ≡ 0 → AtLimit k w h limit f (take (w * h) out′) counted′ lost′ (r .darkest)
+pub record WrittenCutListed (k w h limit : ℕ) (f bytes bytes′ out out′ counted counted′ lost lost′ work work′ : List ℕ) (r : CutListed) : Type 0
+  where
+    pub answer : r ≡ writeCutListAnswer k w h limit f bytes out counted lost work
+    pub written : bytes′ ≡ outAfter (writeCutListRefusal k w h limit f bytes out counted lost work) (recordOf k w h f) bytes
+    pub cut-plate : out′ ≡ outAfter (writeCutListRefusal k w h limit f bytes out counted lost work) (cut k w limit f) out
+    pub count-table : counted′ ≡ outAfter (writeCutListRefusal k w h limit f bytes out counted lost work) (counts k w f) counted
+    pub loss-table : lost′ ≡ outAfter (writeCutListRefusal k w h limit f bytes out counted lost work) (losses k w f) lost
+    pub space : work′ ≡ workAfter (workBegins k w h limit f bytes out counted lost work) (w * h) work
+    pub accepted : writeCutListRefusal k w h limit f bytes out counted lost work ≡ 0 → Plate k w h f
+    pub claim : writeCutListRefusal k w h limit f bytes out counted lost work ≡ 0
+        → AtLimit k w h limit f (take (w * h) out′) counted′ lost′ (r .darkest)

@@ -27,7 +27,8 @@ digits-bound (suc k) (suc m) v a b =
     (λ l. digits-one k v l ∙ sym (digits-one m v l))
     (λ l.
     let h : 10 ≤ v = omega arith in
-    digits-more k v h ∙ ap (λ (s : List ℕ). s ++ (digit (v % 10) ∷ [])) (digits-bound k m (v / 10) (omega arith) (omega arith)) ∙ sym (digits-more m v h))
+    digits-more k v h ∙ ap (λ (s : List ℕ). s ++ (digit (v % 10) ∷ [])) (digits-bound k m (v / 10) (omega arith) (omega arith))
+    ∙ sym (digits-more m v h))
 
 -- a number below ten is one digit
 pub decimal-one : (v : ℕ) → v < 10 → decimal v ≡ digit v ∷ []

@@ -38,7 +38,8 @@ unfolding areaLine
 size-none counted lost i e = rw (le-ltb 0 (nth counted i) (omega arith))
 
 -- any other has one
-pub size-some : (counted lost : List ℕ) (i : ℕ) → (nth counted i ≡ 0 → ⊥) → sizeLine counted lost i ≡ line (decimal (i + 1)) (nth counted i ∷ nth lost i ∷ [])
+pub size-some : (counted lost : List ℕ) (i : ℕ) → (nth counted i ≡ 0 → ⊥)
+    → sizeLine counted lost i ≡ line (decimal (i + 1)) (nth counted i ∷ nth lost i ∷ [])
 unfolding areaLine
 size-some counted lost i e = rw (lt-ltb 0 (nth counted i) (omega arith), add-one i)
 
@@ -123,7 +124,8 @@ module _ {w h : ℕ} {f : List ℕ} (pl : Plate sides w h f) where
   -- ---- its sizes, as listing them returns them
 
   module _ {given counted counted′ lost lost′ work work′ : List ℕ} {r : SizeHead} (same : given ≡ bytes) (a : w * h - 1 ≤ length counted)
-      (b : w * h - 1 ≤ length lost) (c : 8 * (w * h) ≤ length work) (x : ListedSizes (readOf given (length work)) counted counted′ lost lost′ work work′ r)
+      (b : w * h - 1 ≤ length lost) (c : 8 * (w * h) ≤ length work)
+      (x : ListedSizes (readOf given (length work)) counted counted′ lost lost′ work work′ r)
     where
       listed : ListedSizes (plate sides w h f) counted counted′ lost lost′ work work′ r
       listed = rw (same, read-there pl (length work) c) at x

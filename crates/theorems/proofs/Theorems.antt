@@ -125,7 +125,8 @@ module _ {k w h : ℕ} {f : List ℕ} (plate : Plate k w h f) where
   closed-is-least limit t p m l =
       let neg : Plate k w h (negative f) = negative-plate plate in
       let e : length (negative f) ≡ n = negative-length plate in
-      let o : grey (opened k w limit (negative f)) p ≤ greatestGrey = opened-plate neg limit (omega arith) .greys p (omega (arith, opened-length neg limit)) in
+      let o : grey (opened k w limit (negative f)) p ≤ greatestGrey =
+      opened-plate neg limit (omega arith) .greys p (omega (arith, opened-length neg limit)) in
       let c : greatestGrey - grey (closed k w limit f) p ≡ openedAt n near (atLeast (attribute n) limit) (grey (negative f)) p =
       (omega (arith, closed-grey plate limit p l))
       ∙ opened-grey neg limit p (omega arith)
@@ -183,7 +184,8 @@ module _ {k w h : ℕ} {f : List ℕ} (plate : Plate k w h f) where
       ∙ sym (opened-of (max a b) f n refl)
     where
       -- the opening of a list of m greys
-      opened-of : (limit : ℕ) (g : List ℕ) (m : ℕ) → length g ≡ m → opened k w limit g ≡ table m (openedAt m near (atLeast (attribute m) limit) (grey g))
+      opened-of : (limit : ℕ) (g : List ℕ) (m : ℕ) → length g ≡ m
+          → opened k w limit g ≡ table m (openedAt m near (atLeast (attribute m) limit) (grey g))
       opened-of limit g m e = rw (← e)
 
   pub opened-grows : OpenedGrows k w h f

@@ -47,7 +47,8 @@ module _ (k w h : ℕ) (f : List ℕ) where
 
   -- the closed value is the greatest grey minus the opened value on the negative
   abbrev pub ClosedIsLeast : Type 0
-  ClosedIsLeast = (limit t p : ℕ) → limit ≤ n → p < n → Region n near (grey (negative f)) limit t p ↔ t ≤ greatestGrey - grey (closed k w limit f) p
+  ClosedIsLeast =
+      (limit t p : ℕ) → limit ≤ n → p < n → Region n near (grey (negative f)) limit t p ↔ t ≤ greatestGrey - grey (closed k w limit f) p
 
   -- ---- 4. the opening
 
@@ -61,7 +62,8 @@ module _ (k w h : ℕ) (f : List ℕ) where
 
   -- every plate with those two properties is nowhere lighter than the opening
   abbrev pub OpenedIsLightest : Type 0
-  OpenedIsLightest = (limit : ℕ) → limit ≤ n → (g : List ℕ) → NowhereLighter g f → LargeMaxima k w limit g → NowhereLighter g (opened k w limit f)
+  OpenedIsLightest =
+      (limit : ℕ) → limit ≤ n → (g : List ℕ) → NowhereLighter g f → LargeMaxima k w limit g → NowhereLighter g (opened k w limit f)
 
   -- limit 1 changes nothing
   abbrev pub OpenedAtOne : Type 0
@@ -73,7 +75,8 @@ module _ (k w h : ℕ) (f : List ℕ) where
 
   -- the opening is increasing in the plate
   abbrev pub OpenedGrows : Type 0
-  OpenedGrows = (limit : ℕ) → limit ≤ n → (g : List ℕ) → Plate k w h g → NowhereLighter g f → NowhereLighter (opened k w limit g) (opened k w limit f)
+  OpenedGrows =
+      (limit : ℕ) → limit ≤ n → (g : List ℕ) → Plate k w h g → NowhereLighter g f → NowhereLighter (opened k w limit g) (opened k w limit f)
 
   -- ---- 5. the tree
 
@@ -133,7 +136,8 @@ module _ (k w h : ℕ) (f : List ℕ) where
       × (levelOf n near (grey f) xs (own n near (grey f) xs p) ≡ grey f p)
 
   abbrev pub NodesAreChain : Type 0
-  NodesAreChain = (j p : ℕ) → j < length xs → p < n → T (holds n near (grey f) xs j p) ↔ Ancestor (parent n near (grey f) xs) (own n near (grey f) xs p) j
+  NodesAreChain =
+      (j p : ℕ) → j < length xs → p < n → T (holds n near (grey f) xs j p) ↔ Ancestor (parent n near (grey f) xs) (own n near (grey f) xs p) j
 
   -- the root is the whole plate, and its level the darkest grey
   abbrev pub RootIsWhole : Type 0

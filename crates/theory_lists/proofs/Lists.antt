@@ -212,7 +212,8 @@ unfolding gather
 gather-sound zero g q u = absurd u
 gather-sound (suc m) g q u = go (elem-append (gather m g) (g m) q u) (gather-sound m g q)
   where
-    go : T (elem (gather m g) q) ⊎ T (elem (g m) q) → (T (elem (gather m g) q) → (t : ℕ) × (t < m) × T (elem (g t) q)) → (t : ℕ) × (t < suc m) × T (elem (g t) q)
+    go : T (elem (gather m g) q) ⊎ T (elem (g m) q) → (T (elem (gather m g) q) → (t : ℕ) × (t < m) × T (elem (g t) q))
+        → (t : ℕ) × (t < suc m) × T (elem (g t) q)
     go (inl a) ih = let r = ih a in (r .0, omega arith, r .2)
     go (inr b) ih = (m, omega arith, b)
 

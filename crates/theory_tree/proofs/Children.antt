@@ -88,7 +88,8 @@ module _ {n : ℕ} {near : ℕ → ℕ → Bool} (grid : Grid n near) {f : ℕ �
 
   -- up to k: a node that holds p is the last, or just one child of it holds p
   chain-count : (p : ℕ) → p < n → (i k : ℕ) → k < length xs
-      → sum k (λ (c : ℕ). bit (eqb (parent n near f xs (suc c)) i && holds n near f xs (suc c) p)) + bit (eqb (greatest (λ (j : ℕ). holds n near f xs j p) k) i)
+      → sum k (λ (c : ℕ). bit (eqb (parent n near f xs (suc c)) i && holds n near f xs (suc c) p)) + bit
+      (eqb (greatest (λ (j : ℕ). holds n near f xs j p) k) i)
       ≡ bit (leb i k && holds n near f xs i p)
   unfolding sum greatest
   chain-count p l i zero m =
@@ -159,6 +160,7 @@ module _ {n : ℕ} {near : ℕ → ℕ → Bool} (grid : Grid n near) {f : ℕ �
         sum-add n mine (λ (p : ℕ). sum k (child p)),
         area-sum n (λ (p : ℕ). eqb (own n near f xs p) i),
         sum-swap n k child,
-        sum-cong k (λ (c : ℕ). sum n (λ (p : ℕ). child p c)) (λ (c : ℕ). pick (eqb (parent n near f xs (suc c)) i) (area n (holds n near f xs (suc c))) 0)
+        sum-cong k (λ (c : ℕ). sum n (λ (p : ℕ). child p c))
+            (λ (c : ℕ). pick (eqb (parent n near f xs (suc c)) i) (area n (holds n near f xs (suc c))) 0)
             (λ c l. sum-bits n (eqb (parent n near f xs (suc c)) i) (holds n near f xs (suc c))),
       )

@@ -42,7 +42,8 @@ module _ {n : ℕ} {near : ℕ → ℕ → Bool} {keep : (ℕ → Bool) → Bool
   cut-walk v on off zero i h l = absurd (omega arith)
   cut-walk v on off (suc k) i h l = go (choice (keep (holds n near f xs i))) (cut-walk v on off k)
     where
-      go : T (keep (holds n near f xs i)) ⊎ (T (keep (holds n near f xs i)) → ⊥) → ((i : ℕ) → i < k → i < length xs → v i ≡ openedAt n near keep f (nth xs i))
+      go : T (keep (holds n near f xs i)) ⊎ (T (keep (holds n near f xs i)) → ⊥)
+          → ((i : ℕ) → i < k → i < length xs → v i ≡ openedAt n near keep f (nth xs i))
           → v i ≡ openedAt n near keep f (nth xs i)
       go (inl t) ih = on i l t ∙ sym (cut-kept i t)
       go (inr e) ih =

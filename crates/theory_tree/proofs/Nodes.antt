@@ -138,7 +138,8 @@ module _ {n : ℕ} {near : ℕ → ℕ → Bool} (grid : Grid n near) {f : ℕ �
   nodes-distinct = rising-distinct (key n f) xs (nodes .order)
 
   -- nodes of one level with a common pixel are one node
-  pub level-same : (i j p : ℕ) → i < length xs → j < length xs → Over n near f (nth xs i) p → Over n near f (nth xs j) p → f (nth xs i) ≡ f (nth xs j) → i ≡ j
+  pub level-same : (i j p : ℕ) → i < length xs → j < length xs → Over n near f (nth xs i) p → Over n near f (nth xs j) p
+      → f (nth xs i) ≡ f (nth xs j) → i ≡ j
   level-same i j p li lj oi oj e =
       nth-same i j li lj
       (sym (nth-fixed i li)

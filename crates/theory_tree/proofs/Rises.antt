@@ -108,7 +108,8 @@ module _ {n : ℕ} {near : ℕ → ℕ → Bool} {keep : (ℕ → Bool) → Bool
       let la : a < n = nth-inside grid nodes (suc k) m in
       let e : suc k - 1 ≡ k = omega arith in
       let o : Over n near f a p = holds-over grid nodes (suc k) p l (live-holds p (suc k) t) in
-      rw e (greatest-same (live n near f xs keep p) (λ (j : ℕ). holds n near f xs j a) k (live-root p l) (over-holds grid nodes 0 a (root-over grid nodes a la))
+      rw e (greatest-same (live n near f xs keep p) (λ (j : ℕ). holds n near f xs j a) k (live-root p l)
+      (over-holds grid nodes 0 a (root-over grid nodes a la))
       (λ j h u.
       let oj : Over n near f (nth xs j) p = holds-over grid nodes j p l (live-holds p j u) in
       over-holds grid nodes j a (nested grid f (nth xs j) a p oj o (level-le grid nodes j (suc k) (omega arith) m) a (self-over grid nodes (suc k) m)))

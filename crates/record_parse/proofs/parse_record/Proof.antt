@@ -13,7 +13,9 @@ use Rattle.meaning.specs.Plate.{connectivityFits}
 use Rattle.work_columns.specs.Columns.{Room}
 use Rattle.record_parse.specs.Parse.{Parsed, parse}
 use Rattle.record_parse.proofs.Fields.{took, stopped}
-use Rattle.record_parse.proofs.Record.{AfterWidth, AfterHeight, AfterConnectivity, AfterCount, after-width, width-stops, after-height, height-stops, too-large, after-connectivity, connectivity-stops, no-connectivity, after-count, count-stops, too-short, begun, early-answer, late-answer, plate-answer}
+use Rattle.record_parse.proofs.Record.{AfterWidth, AfterHeight, AfterConnectivity, AfterCount, after-width, width-stops, after-height}
+use Rattle.record_parse.proofs.Record.{height-stops, too-large, after-connectivity, connectivity-stops, no-connectivity, after-count}
+use Rattle.record_parse.proofs.Record.{count-stops, too-short, begun, early-answer, late-answer, plate-answer}
 
 -- ---- what is known at each place: the bytes, the length of the work space, and each field with the position after it
 abbrev bytes : tie.Start → List ℕ

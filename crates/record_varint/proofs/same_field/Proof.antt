@@ -7,7 +7,8 @@ use borrow.Author.Needs.{needs}
 use borrow.Author.Tests.{not-true, not-false}
 use denote.Ref.{now}
 use lib.ListN.{length}
-use Rattle.record_varint.proofs.Comparing.{Compared, compared-first, compared-inside, compared-more, compared-differs, compared-same, compared-last-differs}
+use Rattle.record_varint.proofs.Comparing.{Compared, compared-first, compared-inside, compared-more, compared-differs, compared-same}
+use Rattle.record_varint.proofs.Comparing.{compared-last-differs}
 use Rattle.record_varint.proofs.same_field.Statement.{statement}
 use Rattle.record_varint.proofs.same_field.Tie as tie
 
