@@ -101,7 +101,7 @@ fn sizes(line: &[u8], bytes: &[u8], work: &mut [u32]) {
     list_sizes(bytes, &mut counts[..a], &mut losses[..b], work);
 }
 
-fn print_joint(joint: record_write_cut_list::Joint) {
+fn print_joint(joint: record_write_cut_list::CutListed) {
     print_number(joint.refusal as u64);
     print_number(joint.length as u64);
     print_number(joint.nodes as u64);
