@@ -5,7 +5,6 @@ ghost use Prim.Native.Nat.{ℕ, suc, _-_, _≤_, _<_};
 ghost use lib.ListN.{length};
 ghost use Rattle.meaning.specs.Answers.{over};
 ghost use Rattle.meaning.specs.Cut.{darkest};
-ghost use Rattle.meaning.specs.Sets.{table};
 ghost use Rattle.work_columns.specs.Columns.{Room, col};
 ghost use Rattle.work_columns.specs.Layout.{AREA, PARENT};
 ghost use Rattle.record_cut.specs.Climbs.{Climb, Climbable, ClimbedAll};

@@ -54,7 +54,8 @@ use Rattle.livukoe.proofs.livukoe_node_entries.Statement as stated
 use Rattle.livukoe.proofs.livukoe_node_entries.Code as code
 
 abbrev stayed : Stays (listing.ended .signature .params) (listing.ended .kept)
-stayed = (stay-none-slice (0 ∷ []) tt (plain (λ _. u8)) yes, (stay-none (λ _. u32) yes, (stay-none (λ _. u32) yes, (stay-none (λ _. u32) yes, (gave-slice (1 ∷ []) tt (plain (λ _. T.the-row)), (gave-slice (2 ∷ []) tt (plain (λ _. u32)), tt))))))
+stayed =
+    (stay-none-slice (0 ∷ []) tt (plain (λ _. u8)) yes, (stay-none (λ _. u32) yes, (stay-none (λ _. u32) yes, (stay-none (λ _. u32) yes, (gave-slice (1 ∷ []) tt (plain (λ _. T.the-row)), (gave-slice (2 ∷ []) tt (plain (λ _. u32)), tt))))))
 
 module _ {M : Type 1} (𝓤 : URA M) (H : Heap 𝓤) (A : Atoms 𝓤) (mem : Memory → SProp 𝓤) (run : Routine → Fun 𝓤) where
   -- the contract that the proof cites
@@ -114,7 +115,8 @@ module _ {M : Type 1} (𝓤 : URA M) (H : Heap 𝓤) (A : Atoms 𝓤) (W : Given
   goes = qed W (((‵ (flft κ₀ q₀) ⊛ (‵ (flft κ₁ q₁) ⊛ (‵ (flft κ₂ q₂) ⊛ ‵ ftrue))) ⊛ ‵ Owned) ∷ []) ∵ frame ! $ done !
 
   module _ (room₀ : Room u8 (length f)) (room₁ : Room T.the-row (length ys)) (room₂ : Room u32 (length ws)) (w-fits : w < 2 ^ 32) (h-fits : h < 2 ^ 32) (k-fits : k < 2 ^ 32) where
-    exits : (r : NodeList) (ys₁ : List Node) (ws₁ : List ℕ) → length ys₁ ≡ length ys → length ws₁ ≡ length ws → EntriesListed k w h f ys ys₁ ws ws₁ (r .refusal) (r .count)
+    exits : (r : NodeList) (ys₁ : List Node) (ws₁ : List ℕ) → length ys₁ ≡ length ys → length ws₁ ≡ length ws
+        → EntriesListed k w h f ys ys₁ ws ws₁ (r .refusal) (r .count)
         → ent 𝓤 (⋆ 𝓤 H A ((‵ (flft κ₀ q₀) ⊛ (‵ (flft κ₁ q₁) ⊛ (‵ (flft κ₂ q₂) ⊛ ‵ ftrue))) ∷ ‵ Plate ∷ ‵ (finally T.the-row (list .name) ys₁) ∷ ‵ (finally u32 (work .name) ws₁) ∷ ‵ (N.the-row .own r (N′.lowered r ∷ [])) ∷ [])) (Post (N′.lowered r))
     exits r ys₁ ws₁ l l′ e =
         qed W ((‵ (flft κ₀ q₀) ⊛ (‵ (flft κ₁ q₁) ⊛ (‵ (flft κ₂ q₂) ⊛ ‵ ftrue))) ∷ ‵ Plate ∷ ‵ (finally T.the-row (list .name) ys₁) ∷ ‵ (finally u32 (work .name) ws₁) ∷ ‵ (N.the-row .own r (N′.lowered r ∷ [])) ∷ []) ∵
@@ -144,7 +146,8 @@ module _ {M : Type 1} (𝓤 : URA M) (H : Heap 𝓤) (A : Atoms 𝓤) (W : Given
           move ! (23 ∷ []) $ fsplit ! $ use1 W (‵ Plate ⊛ ‵ Plate) (shr-slice-copy 𝓤 H A W (named 0) κ₀ u8 .twice image (s₀ ∷ [])) $ split ! $
           move ! (0 ∷ 2 ∷ []) $ fjoin ! $ move ! (24 ∷ 0 ∷ []) $ join ! $ use1 W (raw (Listing 𝓤 H A mem run .pre to-listing)) goes $
           -- [what `node_entries` asks; the plate; _10; …]
-          calls-at ! fm (Listing 𝓤 H A mem run) known to-listing (and-then ! (load ! (from ! (stop !)) (look ! 20 refl)) (and-then ! (load ! (from ! (stop !)) (look ! 18 refl)) (and-then ! (load ! (from ! (stop !)) (look ! 16 refl))
+          calls-at ! fm (Listing 𝓤 H A mem run) known to-listing
+          (and-then ! (load ! (from ! (stop !)) (look ! 20 refl)) (and-then ! (load ! (from ! (stop !)) (look ! 18 refl)) (and-then ! (load ! (from ! (stop !)) (look ! 16 refl))
           (and-then ! (load ! (from ! (stop !)) (look ! 14 refl)) (and-then ! (load ! (from ! (stop !)) (look ! 6 refl)) (and-then ! (load ! (from ! (stop !)) (look ! 2 refl)) (no-more !))))))) (λ v.
           use1 W (later (some (λ (r : NodeList). ((‵ (flft κ₀ q₀) ⊛ (‵ (flft κ₁ q₁) ⊛ (‵ (flft κ₂ q₂) ⊛ ‵ ftrue))) ⊛ ‵ (N.the-row .own r (v ∷ []))) ⊛ raw (ensured 𝓤 H A callee.ended (callee.clauses 𝓤 H A mem run) (κ₀, (κ₁, (κ₂, tt))) a tt r)))) (id⊢ 𝓤 _) $
           await ! tt $ pick ! (λ r.

@@ -65,7 +65,8 @@ use Rattle.plate_entries.proofs.fill.Code as code
 use Rattle.plate_entries.proofs.fill.Code.Mir as parts
 
 abbrev stayed : Stays (filling.ended .signature .params) (filling.ended .kept)
-stayed = (stay-slice (0 ∷ []) tt (plain (λ _. T.the-row)), (stay-none-slice (1 ∷ []) tt (plain (λ _. u32)) yes, (stay-none (λ _. usize) yes, (stay-none (λ _. usize) yes, tt))))
+stayed =
+    (stay-slice (0 ∷ []) tt (plain (λ _. T.the-row)), (stay-none-slice (1 ∷ []) tt (plain (λ _. u32)) yes, (stay-none (λ _. usize) yes, (stay-none (λ _. usize) yes, tt))))
 
 -- the types of the locals
 abbrev word : Ty
@@ -129,7 +130,8 @@ module _ {M : Type 1} (𝓤 : URA M) (H : Heap 𝓤) (A : Atoms 𝓤) (W : Given
         says ! refl $
         nothing ! $ move ! (4 ∷ 0 ∷ []) $ join ! $ move ! (3 ∷ 0 ∷ []) $ join ! $ frame ! $
         fjoin ! $
-        pureI ! (at-slice T.the-row (x (after count)) (vals .0)) (tt, (tt, tt)) (ap (λ (m : ℕ). sliceVal (b, o) m ∷ []) (sym (filled-length (standing n ws) ys count (can .places))), subst (Room T.the-row) (sym (filled-length (standing n ws) ys count (can .places))) room) $
+        pureI ! (at-slice T.the-row (x (after count)) (vals .0)) (tt, (tt, tt))
+        (ap (λ (m : ℕ). sliceVal (b, o) m ∷ []) (sym (filled-length (standing n ws) ys count (can .places))), subst (Room T.the-row) (sym (filled-length (standing n ws) ys count (can .places))) room) $
         fjoin ! $ fjoin ! $ frame ! $
         feqI ! (List Val) (vunit ∷ []) (vunit ∷ []) refl $ done !
 
@@ -155,18 +157,24 @@ module _ {M : Type 1} (𝓤 : URA M) (H : Heap 𝓤) (A : Atoms 𝓤) (W : Given
 
       -- where i entries are written: the list, i, room for what a turn makes, and what no turn touches
       abbrev At : ℕ → List (Item 𝓤)
-      At i = ‵ (row T.the-row fullShare (after i) b o) ∷ ‵ (fat fullShare word l₅ 0 (vint w64 i)) ∷ ‵ (froom tyBool l₆ 0) ∷ ‵ (froom T′.mir l₇ 0) ∷ ‵ (froom word l₈ 0) ∷ ‵ (froom tyPtr l₉ 0)
-          ∷ ‵ (fat fullShare nodes l₁ 0 s) ∷ ‵ (fat fullShare numbers l₂ 0 s′) ∷ ‵ (fat fullShare word l₃ 0 (vint w64 n)) ∷ ‵ (fat fullShare word l₄ 0 (vint w64 count)) ∷ ‵ (froom tyUnit l₀ 0)
-          ∷ ‵ (fobor κ q (Held T.the-row (length ys) b o γ)) ∷ ‵ (fobs γ (codedHoleys T.the-row .code (heres T.the-row ys))) ∷ ‵ (fauth γ (codedHoleys T.the-row .code (heres T.the-row ys)))
+      At i =
+          ‵ (row T.the-row fullShare (after i) b o) ∷ ‵ (fat fullShare word l₅ 0 (vint w64 i)) ∷ ‵ (froom tyBool l₆ 0) ∷ ‵ (froom T′.mir l₇ 0) ∷ ‵
+          (froom word l₈ 0) ∷ ‵ (froom tyPtr l₉ 0)
+          ∷ ‵ (fat fullShare nodes l₁ 0 s) ∷ ‵ (fat fullShare numbers l₂ 0 s′) ∷ ‵ (fat fullShare word l₃ 0 (vint w64 n)) ∷ ‵
+          (fat fullShare word l₄ 0 (vint w64 count)) ∷ ‵ (froom tyUnit l₀ 0)
+          ∷ ‵ (fobor κ q (Held T.the-row (length ys) b o γ)) ∷ ‵ (fobs γ (codedHoleys T.the-row .code (heres T.the-row ys))) ∷ ‵
+          (fauth γ (codedHoleys T.the-row .code (heres T.the-row ys)))
           ∷ ‵ (flft κ′ q′) ∷ ‵ Space ∷ ‵ Rest
-          ∷ ‵ (fdies tyUnit l₀) ∷ ‵ (fdies nodes l₁) ∷ ‵ (fdies numbers l₂) ∷ ‵ (fdies word l₃) ∷ ‵ (fdies word l₄) ∷ ‵ (fdies word l₅) ∷ ‵ (fdies tyBool l₆) ∷ ‵ (fdies T′.mir l₇) ∷ ‵ (fdies word l₈) ∷ ‵ (fdies tyPtr l₉) ∷ []
+          ∷ ‵ (fdies tyUnit l₀) ∷ ‵ (fdies nodes l₁) ∷ ‵ (fdies numbers l₂) ∷ ‵ (fdies word l₃) ∷ ‵ (fdies word l₄) ∷ ‵ (fdies word l₅) ∷ ‵
+          (fdies tyBool l₆) ∷ ‵ (fdies T′.mir l₇) ∷ ‵ (fdies word l₈) ∷ ‵ (fdies tyPtr l₉) ∷ []
 
       -- when the loop is left, the rest of the body runs
       abbrev Left : Out → SProp 𝓤
       Left = afterBlock 𝓤 H (afterSeq 𝓤 H (Wp 𝓤 H (𝓣 .C) (𝓣 .Λ) En parts.t-3 (atReturn 𝓤 H En Post)) (atReturn 𝓤 H En Post))
 
       -- a turn that writes one entry
-      more : (i : ℕ) (X : SProp 𝓤) → i < count → ent 𝓤 (⋆ 𝓤 H A (At (i + 1))) X → ent 𝓤 (⋆ 𝓤 H A (At i)) (Wp 𝓤 H (𝓣 .C) (𝓣 .Λ) En parts.turn-1 (afterTurn 𝓤 H X Left))
+      more : (i : ℕ) (X : SProp 𝓤) → i < count → ent 𝓤 (⋆ 𝓤 H A (At (i + 1))) X
+          → ent 𝓤 (⋆ 𝓤 H A (At i)) (Wp 𝓤 H (𝓣 .C) (𝓣 .Λ) En parts.turn-1 (afterTurn 𝓤 H X Left))
       unfolding afterTurn
       more i X small k =
           let bytes : i * 16 < 2 ^ 64 = let r : length ys * 16 < 2 ^ 63 = room .1 in omega (arith, small, can .places) in
@@ -174,30 +182,37 @@ module _ {M : Type 1} (𝓤 : URA M) (H : Heap 𝓤) (A : Atoms 𝓤) (W : Given
           let in-list : i < length ys = omega (arith, small, can .places) in
           let within : i < length (after i) = omega (arith, in-list, filled-length (standing n ws) ys i (omega (arith, in-list))) in
           qed W (At i) ∵ exec ! (𝓣 .C) (𝓣 .Λ) En parts.turn-1 (anyQ (afterTurn 𝓤 H X Left)) $
-          assigns ! (bin ! (load ! (from ! (stop !)) (look ! 1 refl)) (load ! (from ! (stop !)) (look ! 9 refl)) tt) (from ! (stop !)) (init ! 2 refl (tt, tt)) $
+          assigns ! (bin ! (load ! (from ! (stop !)) (look ! 1 refl)) (load ! (from ! (stop !)) (look ! 9 refl)) tt) (from ! (stop !))
+          (init ! 2 refl (tt, tt)) $
           rewrite ! 2 (λ (t : Bool). ‵ (fat fullShare tyBool l₆ 0 (vbool t))) (lt-ltb i count small) refl $
           stays ! (load ! (from ! (stop !)) (look ! 2 refl)) $
           -- the work space is passed on, and kept
           move ! (15 ∷ []) $ use1 W (‵ Space ⊛ ‵ Space) (shr-slice-copy 𝓤 H A W (named 1) κ′ u32 .twice work (s′ ∷ [])) $ split ! $ move ! (16 ∷ 0 ∷ []) $
           use2 W (raw (Made 𝓤 H A mem run .pre (to i))) (goes i small) $
           -- [what is asked; the work space; the list; _5 i; _6; _7; _8; _9; _1 list; _2 work; _3 n; _4 count; _0; the open borrow; obs; auth; the parameters'; …]
-          calls-at ! (fmOf 𝓤 H (W .laws) 𝓣) (Made 𝓤 H A mem run) known (to i) (and-then ! (load ! (from ! (stop !)) (look ! 9 refl)) (and-then ! (load ! (from ! (stop !)) (look ! 10 refl)) (and-then ! (load ! (from ! (stop !)) (look ! 3 refl)) (no-more !)))) (λ v.
+          calls-at ! (fmOf 𝓤 H (W .laws) 𝓣) (Made 𝓤 H A mem run) known (to i)
+          (and-then ! (load ! (from ! (stop !)) (look ! 9 refl)) (and-then ! (load ! (from ! (stop !)) (look ! 10 refl)) (and-then ! (load ! (from ! (stop !)) (look ! 3 refl)) (no-more !)))) (λ v.
           use1 W (later (some (λ (r : Node). ((‵ (flft κ′ q′) ⊛ ‵ ftrue) ⊛ ‵ (T.the-row .own r (v ∷ []))) ⊛ raw (ensured 𝓤 H A made.ended (made.clauses 𝓤 H A mem run) (κ′, tt) (work, (n, (i, tt))) tt r)))) (id⊢ 𝓤 _) $
           await ! tt $ pick ! (λ r.
           split ! $ move ! (1 ∷ []) $ use1 W (raw (fact 𝓤 (r ≡ standing n ws i))) (said i r) $ heard ! (r ≡ standing n ws i) (λ e. split ! $ move ! (1 ∷ []) $
           -- [what the entry owns; the token; the work space; the list; _5; _6; _7; _8; _9; _1; …]
           peeks ! T.the-row (Is T.the-row) (shows 𝓤 H A T.the-row) r (v ∷ []) (λ is.
           land ! (from ! (stop !)) (init ! 6 refl (LL.lawful T.the-type T′.the-laws 𝓤 H A W .typed r _ is .0)) $
-          assigns ! (bin ! (load ! (from ! (stop !)) (look ! 4 refl)) (lit ! tt) (record { fits = bytes })) (from ! (stop !)) (init ! 7 refl (tt, record { fits = bytes })) $
-          assigns ! (bin ! (load ! (from ! (fld ! refl (stop !))) (look-in ! 9 (sub ! 0 refl (whole !)))) (load ! (from ! (stop !)) (look ! 7 refl)) tt) (from ! (stop !)) (init ! 8 refl (tt, tt)) $
+          assigns ! (bin ! (load ! (from ! (stop !)) (look ! 4 refl)) (lit ! tt) (record { fits = bytes })) (from ! (stop !))
+          (init ! 7 refl (tt, record { fits = bytes })) $
+          assigns ! (bin ! (load ! (from ! (fld ! refl (stop !))) (look-in ! 9 (sub ! 0 refl (whole !)))) (load ! (from ! (stop !)) (look ! 7 refl)) tt)
+          (from ! (stop !)) (init ! 8 refl (tt, tt)) $
           rewrite ! 8 (λ (p : ℕ). ‵ (fat fullShare tyPtr l₉ 0 (vptr b p))) (sym (place-is 16 o i)) refl $
           move ! (3 ∷ []) $
-          elem-out ! T.the-row (Is T.the-row) (shows 𝓤 H A T.the-row) (LL.vals T.the-type T′.the-laws) (LL.tells T.the-type T′.the-laws) fullShare (after i) i none b o within (λ _.
+          elem-out ! T.the-row (Is T.the-row) (shows 𝓤 H A T.the-row) (LL.vals T.the-type T′.the-laws) (LL.tells T.the-type T′.the-laws) fullShare
+          (after i) i none b o within (λ _.
           -- [list[i]; what it owns; the others; what the entry owns; the token; the work space; _5; _6; _7; _8; _9; …]
-          assigns ! (of-opd ! (load ! (from ! (stop !)) (look ! 8 refl))) (from ! (hop ! (look ! 10 refl) (stop !))) (store-raw ! 0 refl (LL.lawful T.the-type T′.the-laws 𝓤 H A W .typed r _ is .0)) $
+          assigns ! (of-opd ! (load ! (from ! (stop !)) (look ! 8 refl))) (from ! (hop ! (look ! 10 refl) (stop !)))
+          (store-raw ! 0 refl (LL.lawful T.the-type T′.the-laws 𝓤 H A W .typed r _ is .0)) $
           move ! (1 ∷ []) $ drop ! $ move ! (0 ∷ 2 ∷ 1 ∷ []) $ elem-put ! T.the-row fullShare (after i) i r (v ∷ []) b o within $
           rewrite ! 0 (λ (l : List Node). ‵ (row T.the-row fullShare l b o)) (filled-more (standing n ws) ys i r in-list e) refl $
-          assigns-last ! (bin ! (load ! (from ! (stop !)) (look ! 3 refl)) (lit ! tt) (record { fits = next-fits })) (from ! (stop !)) (store ! 3 refl (tt, record { fits = next-fits })) $
+          assigns-last ! (bin ! (load ! (from ! (stop !)) (look ! 3 refl)) (lit ! tt) (record { fits = next-fits })) (from ! (stop !))
+          (store ! 3 refl (tt, record { fits = next-fits })) $
           forget ! 4 refl $ forget ! 5 refl $ forget ! 6 refl $ forget ! 7 refl $ move ! (1 ∷ []) $ split ! $
           keep ! (2 ∷ 4 ∷ 5 ∷ 6 ∷ 7 ∷ 8 ∷ 9 ∷ 10 ∷ 11 ∷ 12 ∷ 13 ∷ 14 ∷ 15 ∷ 16 ∷ 0 ∷ 3 ∷ 17 ∷ 18 ∷ 19 ∷ 20 ∷ 21 ∷ 22 ∷ 23 ∷ 24 ∷ 25 ∷ 26 ∷ 27 ∷ []) $
           by ! k)))))
@@ -207,7 +222,8 @@ module _ {M : Type 1} (𝓤 : URA M) (H : Heap 𝓤) (A : Atoms 𝓤) (W : Given
       unfolding afterTurn
       ends X =
           qed W (At count) ∵ exec ! (𝓣 .C) (𝓣 .Λ) En parts.turn-1 (anyQ (afterTurn 𝓤 H X Left)) $
-          assigns ! (bin ! (load ! (from ! (stop !)) (look ! 1 refl)) (load ! (from ! (stop !)) (look ! 9 refl)) tt) (from ! (stop !)) (init ! 2 refl (tt, tt)) $
+          assigns ! (bin ! (load ! (from ! (stop !)) (look ! 1 refl)) (load ! (from ! (stop !)) (look ! 9 refl)) tt) (from ! (stop !))
+          (init ! 2 refl (tt, tt)) $
           rewrite ! 2 (λ (t : Bool). ‵ (fat fullShare tyBool l₆ 0 (vbool t))) (le-ltb count count (omega arith)) refl $
           leaves-loop ! (load ! (from ! (stop !)) (look ! 2 refl)) $ exec ! (𝓣 .C) (𝓣 .Λ) En parts.t-3 (atRet En Post) $
           assigns ! (of-opd ! (unit-lit !)) (from ! (stop !)) (init ! 10 refl (tt, tt)) $
@@ -230,7 +246,8 @@ module _ {M : Type 1} (𝓤 : URA M) (H : Heap 𝓤) (A : Atoms 𝓤) (W : Given
 
       turn-at : (t : ℕ) → t < count + 1 → ent 𝓤 (⋆ 𝓤 H A (At (count - t))) (Wp 𝓤 H (𝓣 .C) (𝓣 .Λ) En parts.turn-1 (afterTurn 𝓤 H (Below 𝓤 H A _<_ Inv t) Left))
       turn-at zero l =
-          subst (λ (j : ℕ). ent 𝓤 (⋆ 𝓤 H A (At j)) (Wp 𝓤 H (𝓣 .C) (𝓣 .Λ) En parts.turn-1 (afterTurn 𝓤 H (Below 𝓤 H A _<_ Inv zero) Left))) (omega arith) (ends (Below 𝓤 H A _<_ Inv zero))
+          subst (λ (j : ℕ). ent 𝓤 (⋆ 𝓤 H A (At j)) (Wp 𝓤 H (𝓣 .C) (𝓣 .Λ) En parts.turn-1 (afterTurn 𝓤 H (Below 𝓤 H A _<_ Inv zero) Left))) (omega arith)
+          (ends (Below 𝓤 H A _<_ Inv zero))
       turn-at (suc t) l =
           more (count - suc t) (Below 𝓤 H A _<_ Inv (suc t)) (omega (arith, l))
           (subst (λ (j : ℕ). ent 𝓤 (⋆ 𝓤 H A (At j)) (Below 𝓤 H A _<_ Inv (suc t))) (omega (arith, l)) (below t l))
@@ -246,7 +263,8 @@ module _ {M : Type 1} (𝓤 : URA M) (H : Heap 𝓤) (A : Atoms 𝓤) (W : Given
 
     -- the MIR, up to the loop
     walk : (𝓣 : Tables 𝓤 H) → Triple 𝓤 (𝓣 .C #plate-entries·standing) (Made 𝓤 H A mem run)
-        → ent 𝓤 (onEntry 𝓤 H A filling.signature (κ, (κ′, tt)) (q, (q′, tt)) a vals) (WpFn 𝓤 H (𝓣 .C) (𝓣 .Λ) code.function (s ∷ s′ ∷ vint w64 n ∷ vint w64 count ∷ []) Post)
+        → ent 𝓤 (onEntry 𝓤 H A filling.signature (κ, (κ′, tt)) (q, (q′, tt)) a vals)
+        (WpFn 𝓤 H (𝓣 .C) (𝓣 .Λ) code.function (s ∷ s′ ∷ vint w64 n ∷ vint w64 count ∷ []) Post)
     walk 𝓣 known =
         qed W ((‵ (flft κ q) ⊛ (‵ (flft κ′ q′) ⊛ ‵ ftrue)) ∷ ‵ (owns (MutSlice (named 0) κ T.the-row ∷ ShrSlice (named 1) κ′ u32 ∷ usize ∷ usize ∷ []) a vals) ∷ []) ∵
         enter ! (𝓣 .C) (𝓣 .Λ) code.function (s ∷ s′ ∷ vint w64 n ∷ vint w64 count ∷ []) _ $

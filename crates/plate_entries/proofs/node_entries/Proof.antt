@@ -69,7 +69,8 @@ use Rattle.plate_entries.proofs.node_entries.Statement as stated
 use Rattle.plate_entries.proofs.node_entries.Code as code
 
 abbrev stayed : Stays (listing.ended .signature .params) (listing.ended .kept)
-stayed = (stay-none-slice (0 ∷ []) tt (plain (λ _. u8)) yes, (stay-none (λ _. u32) yes, (stay-none (λ _. u32) yes, (stay-none (λ _. u32) yes, (gave-slice (1 ∷ []) tt (plain (λ _. T.the-row)), (gave-slice (2 ∷ []) tt (plain (λ _. u32)), tt))))))
+stayed =
+    (stay-none-slice (0 ∷ []) tt (plain (λ _. u8)) yes, (stay-none (λ _. u32) yes, (stay-none (λ _. u32) yes, (stay-none (λ _. u32) yes, (gave-slice (1 ∷ []) tt (plain (λ _. T.the-row)), (gave-slice (2 ∷ []) tt (plain (λ _. u32)), tt))))))
 
 module _ {M : Type 1} (𝓤 : URA M) (H : Heap 𝓤) (A : Atoms 𝓤) (mem : Memory → SProp 𝓤) (run : Routine → Fun 𝓤) where
   -- the contracts that the proof cites
@@ -126,7 +127,8 @@ module _ {M : Type 1} (𝓤 : URA M) (H : Heap 𝓤) (A : Atoms 𝓤) (W : Given
   Nodes = MutSlice (named 1) κ₁ T.the-row .own list (s₁ ∷ [])
 
   module _ (room₀ : Room u8 (length f)) (room₁ : Room T.the-row (length ys)) (room₂ : Room u32 (length ws)) (w-fits : w < 2 ^ 32) (h-fits : h < 2 ^ 32) (k-fits : k < 2 ^ 32) where
-    exits : (r : NodeList) (zs : List Node) (ws₂ : List ℕ) → length zs ≡ length ys → length ws₂ ≡ length ws → EntriesListed k w h f ys zs ws ws₂ (r .refusal) (r .count)
+    exits : (r : NodeList) (zs : List Node) (ws₂ : List ℕ) → length zs ≡ length ys → length ws₂ ≡ length ws
+        → EntriesListed k w h f ys zs ws ws₂ (r .refusal) (r .count)
         → ent 𝓤 (⋆ 𝓤 H A (‵ (flft κ₀ q₀) ∷ ‵ (flft κ₁ q₁) ∷ (‵ (flft κ₂ q₂) ⊛ ‵ ftrue) ∷ ‵ Plate ∷ ‵ (finally T.the-row (list .name) zs) ∷ ‵ (finally u32 γ ws₂) ∷ ‵ (N.the-row .own r (N′.lowered r ∷ [])) ∷ [])) (Post (N′.lowered r))
     exits r zs ws₂ l l′ e =
         qed W (‵ (flft κ₀ q₀) ∷ ‵ (flft κ₁ q₁) ∷ (‵ (flft κ₂ q₂) ⊛ ‵ ftrue) ∷ ‵ Plate ∷ ‵ (finally T.the-row (list .name) zs) ∷ ‵ (finally u32 γ ws₂) ∷ ‵ (N.the-row .own r (N′.lowered r ∷ [])) ∷ []) ∵
@@ -146,9 +148,11 @@ module _ {M : Type 1} (𝓤 : URA M) (H : Heap 𝓤) (A : Atoms 𝓤) (W : Given
     args₀ δ = (image, (w, (h, (k, (length ys, (x δ ws, tt))))))
 
     abbrev to-start : ℕ → GName → Start 𝓤 H A mem run .Ghost
-    to-start ν δ = (((κ₀, (ν ∷ [], tt)), (q₀, (fullShare, tt)), tt, args₀ δ, (s₀ ∷ [], (vint w32 w ∷ [], (vint w32 h ∷ [], (vint w32 k ∷ [], (vint w64 (length ys) ∷ [], (s₂ ∷ [], tt))))))), tt)
+    to-start ν δ =
+        (((κ₀, (ν ∷ [], tt)), (q₀, (fullShare, tt)), tt, args₀ δ, (s₀ ∷ [], (vint w32 w ∷ [], (vint w32 h ∷ [], (vint w32 k ∷ [], (vint w64 (length ys) ∷ [], (s₂ ∷ [], tt))))))), tt)
 
-    goes-start : (ν : ℕ) (δ : GName) → ent 𝓤 (sep 𝓤 (sep 𝓤 (sem 𝓤 H A Plate) (sem 𝓤 H A (MutSlice (named 1) (ν ∷ []) u32 .own (x δ ws) (s₂ ∷ [])))) (sep 𝓤 (A .lft κ₀ q₀) (A .lft (ν ∷ []) fullShare))) (Start 𝓤 H A mem run .pre (to-start ν δ))
+    goes-start : (ν : ℕ) (δ : GName)
+        → ent 𝓤 (sep 𝓤 (sep 𝓤 (sem 𝓤 H A Plate) (sem 𝓤 H A (MutSlice (named 1) (ν ∷ []) u32 .own (x δ ws) (s₂ ∷ [])))) (sep 𝓤 (A .lft κ₀ q₀) (A .lft (ν ∷ []) fullShare))) (Start 𝓤 H A mem run .pre (to-start ν δ))
     goes-start ν δ =
         qed W ((‵ Plate ⊛ ‵ (MutSlice (named 1) (ν ∷ []) u32 .own (x δ ws) (s₂ ∷ []))) ∷ ‵ (flft κ₀ q₀) ∷ ‵ (flft (ν ∷ []) fullShare) ∷ []) ∵ split ! $
         nothing ! $ move ! (2 ∷ 0 ∷ []) $ fjoin ! $ owned ! usize (Is usize) (uint-makes 𝓤 H A W w64) (length ys) _ (refl, room₁ .0) $ fjoin ! $
@@ -164,11 +168,14 @@ module _ {M : Type 1} (𝓤 : URA M) (H : Heap 𝓤) (A : Atoms 𝓤) (W : Given
       args₁ δ = (list, (x δ ws₁, (length f, (r .count, tt))))
 
       abbrev to-fill : ℕ → GName → Fill 𝓤 H A mem run .Ghost
-      to-fill ν δ = (((κ₁, (ν ∷ [], tt)), (q₁, (fullShare, tt)), tt, args₁ δ, (s₁ ∷ [], (s₂ ∷ [], (vint w64 (length f) ∷ [], (vint w64 (r .count) ∷ [], tt))))), tt)
+      to-fill ν δ =
+          (((κ₁, (ν ∷ [], tt)), (q₁, (fullShare, tt)), tt, args₁ δ, (s₁ ∷ [], (s₂ ∷ [], (vint w64 (length f) ∷ [], (vint w64 (r .count) ∷ [], tt))))), tt)
 
-      goes-fill : (ν : ℕ) (δ : GName) → ent 𝓤 (sep 𝓤 (sep 𝓤 (sem 𝓤 H A Nodes) (sem 𝓤 H A (ShrSlice (named 1) (ν ∷ []) u32 .own (x δ ws₁) (s₂ ∷ [])))) (sep 𝓤 (A .lft κ₁ q₁) (A .lft (ν ∷ []) fullShare))) (Fill 𝓤 H A mem run .pre (to-fill ν δ))
+      goes-fill : (ν : ℕ) (δ : GName)
+          → ent 𝓤 (sep 𝓤 (sep 𝓤 (sem 𝓤 H A Nodes) (sem 𝓤 H A (ShrSlice (named 1) (ν ∷ []) u32 .own (x δ ws₁) (s₂ ∷ [])))) (sep 𝓤 (A .lft κ₁ q₁) (A .lft (ν ∷ []) fullShare))) (Fill 𝓤 H A mem run .pre (to-fill ν δ))
       goes-fill ν δ =
-          qed W ((‵ Nodes ⊛ ‵ (ShrSlice (named 1) (ν ∷ []) u32 .own (x δ ws₁) (s₂ ∷ []))) ∷ ‵ (flft κ₁ q₁) ∷ ‵ (flft (ν ∷ []) fullShare) ∷ []) ∵ says ! (fillable ys (r .refusal) (r .count) st) $
+          qed W ((‵ Nodes ⊛ ‵ (ShrSlice (named 1) (ν ∷ []) u32 .own (x δ ws₁) (s₂ ∷ []))) ∷ ‵ (flft κ₁ q₁) ∷ ‵ (flft (ν ∷ []) fullShare) ∷ []) ∵ says !
+          (fillable ys (r .refusal) (r .count) st) $
           split ! $
           nothing ! $ owned ! usize (Is usize) (uint-makes 𝓤 H A W w64) (r .count) _ (refl, count-fits) $ fjoin ! $
           owned ! usize (Is usize) (uint-makes 𝓤 H A W w64) (length f) _ (refl, room₀ .0) $ fjoin ! $
@@ -208,8 +215,10 @@ module _ {M : Type 1} (𝓤 : URA M) (H : Heap 𝓤) (A : Atoms 𝓤) (W : Given
           pass1 ! (init ! 32 refl (tt, record { fits = k-fits })) $ pass1 ! (init ! 30 refl (tt, (tt, (record { fits = room₁ .0 }, tt)))) $
           pass1 ! (init ! 28 refl (tt, (tt, (record { fits = room₂ .0 }, tt)))) $ pass0 ! $
           -- [_20; …; _0; …; the tokens; what the parameters own]: the number of pixels, the places, the work space lent again
-          assigns ! (of-opd ! (load ! (from ! (fld ! refl (stop !))) (look-in ! 38 (sub ! 1 refl (whole !))))) (from ! (stop !)) (init ! 26 refl (tt, record { fits = room₀ .0 })) $
-          assigns ! (of-opd ! (load ! (from ! (fld ! refl (stop !))) (look-in ! 30 (sub ! 1 refl (whole !))))) (from ! (stop !)) (init ! 24 refl (tt, record { fits = room₁ .0 })) $
+          assigns ! (of-opd ! (load ! (from ! (fld ! refl (stop !))) (look-in ! 38 (sub ! 1 refl (whole !))))) (from ! (stop !))
+          (init ! 26 refl (tt, record { fits = room₀ .0 })) $
+          assigns ! (of-opd ! (load ! (from ! (fld ! refl (stop !))) (look-in ! 30 (sub ! 1 refl (whole !))))) (from ! (stop !))
+          (init ! 24 refl (tt, record { fits = room₁ .0 })) $
           assigns ! (addr ! (from ! (fld ! refl (hop ! (look-in ! 28 (sub ! 0 refl (whole !))) (stop !))))) (from ! (stop !)) (init ! 16 refl (tt, tt)) $
           assigns ! (agg ! (and-then ! (load ! (from ! (stop !)) (look ! 16 refl)) (and-then ! (load ! (from ! (fld ! refl (stop !))) (look-in ! 28 (sub ! 1 refl (whole !)))) (no-more !)))) (from ! (stop !)) (init ! 14 refl (tt, (tt, (record { fits = room₂ .0 }, tt)))) $
           move ! (42 ∷ 43 ∷ []) $ split ! $ move ! (1 ∷ []) $ split ! $ move ! (1 ∷ []) $ split ! $
@@ -218,11 +227,13 @@ module _ {M : Type 1} (𝓤 : URA M) (H : Heap 𝓤) (A : Atoms 𝓤) (W : Given
           -- [the work space; the list; the plate; its token; the list's; the plate's; _20; …]
           move ! (2 ∷ []) $ use1 W (‵ Plate ⊛ ‵ Plate) (shr-slice-copy 𝓤 H A W (named 0) κ₀ u8 .twice image (s₀ ∷ [])) $ split ! $
           lft-new ! tt (λ ν. move ! (3 ∷ 5 ∷ []) $
-          use2 W (later (some (λ (δ : GName). ‵ (MutSlice (named 1) (ν ∷ []) u32 .own (x δ ws) (s₂ ∷ [])) ⊛ ‵ (LentAgain u32 κ₂ (ν ∷ []) q₂ γ b o δ ws)))) (lends-again u32 κ₂ (ν ∷ []) q₂ γ b o 𝓤 H A W (named 2) (named 1) ws) $
+          use2 W (later (some (λ (δ : GName). ‵ (MutSlice (named 1) (ν ∷ []) u32 .own (x δ ws) (s₂ ∷ [])) ⊛ ‵ (LentAgain u32 κ₂ (ν ∷ []) q₂ γ b o δ ws))))
+          (lends-again u32 κ₂ (ν ∷ []) q₂ γ b o 𝓤 H A W (named 2) (named 1) ws) $
           await ! tt $ pick ! (λ δ. split ! $
           move ! (3 ∷ 0 ∷ 7 ∷ 2 ∷ []) $ join ! $ use3 W (raw (Start 𝓤 H A mem run .pre (to-start ν δ))) (goes-start ν δ) $
           -- [what `start_list` asks; what is kept of the work space; the plate; the list; the list's token; _20; …]
-          calls-at ! fm (Start 𝓤 H A mem run) known-start (to-start ν δ) (and-then ! (load ! (from ! (stop !)) (look ! 43 refl)) (and-then ! (load ! (from ! (stop !)) (look ! 41 refl)) (and-then ! (load ! (from ! (stop !)) (look ! 39 refl))
+          calls-at ! fm (Start 𝓤 H A mem run) known-start (to-start ν δ)
+          (and-then ! (load ! (from ! (stop !)) (look ! 43 refl)) (and-then ! (load ! (from ! (stop !)) (look ! 41 refl)) (and-then ! (load ! (from ! (stop !)) (look ! 39 refl))
           (and-then ! (load ! (from ! (stop !)) (look ! 37 refl)) (and-then ! (load ! (from ! (stop !)) (look ! 29 refl)) (and-then ! (load ! (from ! (stop !)) (look ! 19 refl)) (no-more !))))))) (λ v.
           use1 W (later (some (λ (r : NodeList). ((‵ (flft κ₀ q₀) ⊛ (‵ (flft (ν ∷ []) fullShare) ⊛ ‵ ftrue)) ⊛ ‵ (N.the-row .own r (v ∷ []))) ⊛ raw (ensured 𝓤 H A starting.ended (starting.clauses 𝓤 H A mem run) (κ₀, (ν ∷ [], tt)) (args₀ δ) tt r)))) (id⊢ 𝓤 _) $
           await ! tt $ pick ! (λ r.
@@ -244,10 +255,12 @@ module _ {M : Type 1} (𝓤 : URA M) (H : Heap 𝓤) (A : Atoms 𝓤) (W : Given
           rewrite ! 29 (λ (u : Val). ‵ (fat fullShare N′.mir l₉ 0 u)) (ap only tells) refl $
           rewrite ! 0 (λ (us : List Val). ‵ (N.the-row .own r us)) tells refl $
           move ! (1 ∷ []) $ split ! $ move ! (1 ∷ []) $ split ! $ lft-end ! tt $ move ! (0 ∷ 5 ∷ 4 ∷ []) $
-          use3 W (later (‵ (MutSlice (named 2) κ₂ u32 .own (x γ ws₁) (s₂ ∷ [])) ⊛ ‵ (flft κ₂ q₂))) (comes-back u32 κ₂ (ν ∷ []) q₂ γ b o 𝓤 H A W (named 2) (named 1) ws δ ws₁ room₂ l) $
+          use3 W (later (‵ (MutSlice (named 2) κ₂ u32 .own (x γ ws₁) (s₂ ∷ [])) ⊛ ‵ (flft κ₂ q₂)))
+          (comes-back u32 κ₂ (ν ∷ []) q₂ γ b o 𝓤 H A W (named 2) (named 1) ws δ ws₁ room₂ l) $
           await ! tt $ split ! $
           -- [the work space; its token; true; the plate's token; what the answer owns; the plate; the list; its token; _20; …]: the count, the list and the work space lent again
-          assigns ! (un ! (load ! (from ! (fld ! refl (stop !))) (look-in ! 30 (sub ! 1 refl (whole !)))) (record { fits = count-fits })) (from ! (stop !)) (init ! 28 refl (tt, record { fits = count-fits })) $
+          assigns ! (un ! (load ! (from ! (fld ! refl (stop !))) (look-in ! 30 (sub ! 1 refl (whole !)))) (record { fits = count-fits })) (from ! (stop !))
+          (init ! 28 refl (tt, record { fits = count-fits })) $
           assigns ! (addr ! (from ! (fld ! refl (hop ! (look-in ! 38 (sub ! 0 refl (whole !))) (stop !))))) (from ! (stop !)) (init ! 18 refl (tt, tt)) $
           assigns ! (agg ! (and-then ! (load ! (from ! (stop !)) (look ! 18 refl)) (and-then ! (load ! (from ! (fld ! refl (stop !))) (look-in ! 38 (sub ! 1 refl (whole !)))) (no-more !)))) (from ! (stop !)) (init ! 16 refl (tt, (tt, (record { fits = room₁ .0 }, tt)))) $
           assigns ! (addr ! (from ! (fld ! refl (hop ! (look-in ! 36 (sub ! 0 refl (whole !))) (stop !))))) (from ! (stop !)) (init ! 14 refl (tt, tt)) $
@@ -258,7 +271,8 @@ module _ {M : Type 1} (𝓤 : URA M) (H : Heap 𝓤) (A : Atoms 𝓤) (W : Given
           move ! (7 ∷ 0 ∷ []) $ join ! $ move ! (0 ∷ 7 ∷ 2 ∷ []) $
           use3 W (raw (Fill 𝓤 H A mem run .pre (to-fill r ws₁ l count-fits refusal-fits st ν′ δ′))) (goes-fill r ws₁ l count-fits refusal-fits st ν′ δ′) $
           -- [what `fill` asks; what is kept of the work space; true; the plate's token; what the answer owns; the plate; _20; …]
-          calls-at ! fm (Fill 𝓤 H A mem run) known-fill (to-fill r ws₁ l count-fits refusal-fits st ν′ δ′) (and-then ! (load ! (from ! (stop !)) (look ! 14 refl)) (and-then ! (load ! (from ! (stop !)) (look ! 10 refl)) (and-then ! (load ! (from ! (stop !)) (look ! 32 refl)) (and-then ! (load ! (from ! (stop !)) (look ! 26 refl)) (no-more !))))) (λ v₁.
+          calls-at ! fm (Fill 𝓤 H A mem run) known-fill (to-fill r ws₁ l count-fits refusal-fits st ν′ δ′)
+          (and-then ! (load ! (from ! (stop !)) (look ! 14 refl)) (and-then ! (load ! (from ! (stop !)) (look ! 10 refl)) (and-then ! (load ! (from ! (stop !)) (look ! 32 refl)) (and-then ! (load ! (from ! (stop !)) (look ! 26 refl)) (no-more !))))) (λ v₁.
           use1 W (later (some (λ (u : Unit {0}). ((‵ (flft κ₁ q₁) ⊛ (‵ (flft (ν′ ∷ []) fullShare) ⊛ ‵ ftrue)) ⊛ ‵ (unit .own u (v₁ ∷ []))) ⊛ raw (ensured 𝓤 H A filling.ended (filling.clauses 𝓤 H A mem run) (κ₁, (ν′ ∷ [], tt)) (args₁ r ws₁ l count-fits refusal-fits st δ′) tt u)))) (id⊢ 𝓤 _) $
           await ! tt $ pick ! (λ u.
           split ! $ move ! (1 ∷ []) $
@@ -270,15 +284,18 @@ module _ {M : Type 1} (𝓤 : URA M) (H : Heap 𝓤) (A : Atoms 𝓤) (W : Given
           peeks ! unit (Is unit) (shows 𝓤 H A unit) u (v₁ ∷ []) (λ is₁.
           land ! (from ! (stop !)) (init ! 20 refl (nothing-lawful 𝓤 H A W .typed u _ is₁ .0)) $ drop ! $
           split ! $ move ! (1 ∷ []) $ split ! $ lft-end ! tt $ move ! (0 ∷ 4 ∷ []) $
-          use2 W (later (‵ (MutSlice (named 0) κ₂ u32 .own (x γ ws₁) (s₂ ∷ [])) ⊛ ‵ (flft κ₂ q₂))) (shared-back u32 κ₂ (ν′ ∷ []) q₂ γ b o 𝓤 H A W (named 0) (named 1) ws₁ (s₂ ∷ []) (subst (Room u32) (sym l) room₂) (ap (λ (m : ℕ). sliceVal (b, o) m ∷ []) (sym l))) $
+          use2 W (later (‵ (MutSlice (named 0) κ₂ u32 .own (x γ ws₁) (s₂ ∷ [])) ⊛ ‵ (flft κ₂ q₂)))
+          (shared-back u32 κ₂ (ν′ ∷ []) q₂ γ b o 𝓤 H A W (named 0) (named 1) ws₁ (s₂ ∷ []) (subst (Room u32) (sym l) room₂) (ap (λ (m : ℕ). sliceVal (b, o) m ∷ []) (sym l))) $
           await ! tt $ split ! $
           -- [the work space; its token; true; the list's token; its last list; true; the plate's token; what the answer owns; the plate; _20; …]: the refusal, the work space handed on
-          assigns ! (of-opd ! (load ! (from ! (fld ! refl (stop !))) (look-in ! 31 (sub ! 0 refl (whole !))))) (from ! (stop !)) (init ! 27 refl (tt, record { fits = refusal-fits })) $
+          assigns ! (of-opd ! (load ! (from ! (fld ! refl (stop !))) (look-in ! 31 (sub ! 0 refl (whole !))))) (from ! (stop !))
+          (init ! 27 refl (tt, record { fits = refusal-fits })) $
           assigns ! (addr ! (from ! (fld ! refl (hop ! (look-in ! 37 (sub ! 0 refl (whole !))) (stop !))))) (from ! (stop !)) (init ! 11 refl (tt, tt)) $
           assigns ! (agg ! (and-then ! (load ! (from ! (stop !)) (look ! 11 refl)) (and-then ! (load ! (from ! (fld ! refl (stop !))) (look-in ! 37 (sub ! 1 refl (whole !)))) (no-more !)))) (from ! (stop !)) (init ! 9 refl (tt, (tt, (record { fits = room₂ .0 }, tt)))) $
           move ! (1 ∷ 0 ∷ []) $
           use2 W (raw (End 𝓤 H A mem run .pre (to-end r ws₁ l count-fits refusal-fits st))) (goes-end r ws₁ l count-fits refusal-fits st) $
-          calls-at ! fm (End 𝓤 H A mem run) known-end (to-end r ws₁ l count-fits refusal-fits st) (and-then ! (load ! (from ! (stop !)) (look ! 8 refl)) (and-then ! (load ! (from ! (stop !)) (look ! 34 refl)) (and-then ! (load ! (from ! (stop !)) (look ! 26 refl)) (no-more !)))) (λ v₂.
+          calls-at ! fm (End 𝓤 H A mem run) known-end (to-end r ws₁ l count-fits refusal-fits st)
+          (and-then ! (load ! (from ! (stop !)) (look ! 8 refl)) (and-then ! (load ! (from ! (stop !)) (look ! 34 refl)) (and-then ! (load ! (from ! (stop !)) (look ! 26 refl)) (no-more !)))) (λ v₂.
           use1 W (later (some (λ (u₂ : Unit {0}). ((‵ (flft κ₂ q₂) ⊛ ‵ ftrue) ⊛ ‵ (unit .own u₂ (v₂ ∷ []))) ⊛ raw (ensured 𝓤 H A ending.ended (ending.clauses 𝓤 H A mem run) (κ₂, tt) (args₂ r ws₁ l count-fits refusal-fits st) tt u₂)))) (id⊢ 𝓤 _) $
           await ! tt $ pick ! (λ u₂.
           split ! $ move ! (1 ∷ []) $
@@ -289,7 +306,8 @@ module _ {M : Type 1} (𝓤 : URA M) (H : Heap 𝓤) (A : Atoms 𝓤) (W : Given
           -- [the unit; the work space's token; its last list; …; true; the list's token; its last list; true; the plate's token; what the answer owns; the plate; _20; …]
           peeks ! unit (Is unit) (shows 𝓤 H A unit) u₂ (v₂ ∷ []) (λ is₂.
           land ! (from ! (stop !)) (store ! 23 refl (nothing-lawful 𝓤 H A W .typed u₂ _ is₂ .0)) $
-          assigns ! (of-opd ! (load ! (from ! (stop !)) (look ! 33 refl))) (from ! (stop !)) (init ! 51 refl (LL.lawful N.the-type N′.the-laws 𝓤 H A W .typed r _ is′ .0)) $
+          assigns ! (of-opd ! (load ! (from ! (stop !)) (look ! 33 refl))) (from ! (stop !))
+          (init ! 51 refl (LL.lawful N.the-type N′.the-laws 𝓤 H A W .typed r _ is′ .0)) $
           returns ! (look ! 51 refl) $
           forget ! 11 refl $ forget ! 13 refl $ forget ! 15 refl $ forget ! 17 refl $ forget ! 19 refl $ forget ! 21 refl $ forget ! 23 refl $
           forget ! 25 refl $ forget ! 27 refl $ forget ! 29 refl $ forget ! 31 refl $ forget ! 33 refl $ forget ! 35 refl $ forget ! 37 refl $
@@ -307,7 +325,8 @@ module _ {M : Type 1} (𝓤 : URA M) (H : Heap 𝓤) (A : Atoms 𝓤) (W : Given
           by ! (exits r (zs₁ .0) (zs₂ .0) len₁ (len₂ ∙ l) (entries-listed ys (r .refusal) (r .count) st e₁ e₂)))))))))))))))))))))))))))))))))))))))))))))
 
 module _ {M : Type 1} (𝓤 : URA M) (H : Heap 𝓤) (A : Atoms 𝓤) (W : Given 𝓤 H A) (mem : Memory → SProp 𝓤) (run : Routine → Fun 𝓤) (𝓣 : Tables 𝓤 H)
-    (known-start : Triple 𝓤 (𝓣 .C #plate-tree·start-list) (Start 𝓤 H A mem run)) (known-fill : Triple 𝓤 (𝓣 .C #plate-entries·fill) (Fill 𝓤 H A mem run)) (known-end : Triple 𝓤 (𝓣 .C #plate-entries·end-list) (End 𝓤 H A mem run)) where
+    (known-start : Triple 𝓤 (𝓣 .C #plate-tree·start-list) (Start 𝓤 H A mem run)) (known-fill : Triple 𝓤 (𝓣 .C #plate-entries·fill) (Fill 𝓤 H A mem run))
+    (known-end : Triple 𝓤 (𝓣 .C #plate-entries·end-list) (End 𝓤 H A mem run)) where
   node-entries-walks : Walks 𝓤 H A listing.ended stayed (WpFn 𝓤 H (𝓣 .C) (𝓣 .Λ) code.function) (listing.clauses 𝓤 H A mem run)
   node-entries-walks = walked 𝓤 H A listing.ended stayed (listing.clauses 𝓤 H A mem run) (WpFn 𝓤 H (𝓣 .C) (𝓣 .Λ) code.function)
       (λ κs. (slice-vals, (uint-vals w32, (uint-vals w32, (uint-vals w32, (slice-vals, (slice-vals, tt)))))))
