@@ -10,14 +10,10 @@ ghost use Rattle.work_columns.specs.Layout.{AREA, PARENT};
 ghost use Rattle.record_cut.specs.Climbs.{Climb, Climbable, ClimbedAll};
 ghost use Rattle.record_cut.specs.Sizes.{Inner, SizesListable, byArea, lossOf, zeros};
 ghost use Rattle.record_cut.specs.Standing.{CutWritten, OfPlate, SizesWritten, Stands, TablesFit};
-
-const LEVEL: usize = 3;
-
-const VALUE: usize = 4;
-
-const PARENT: usize = 5;
-
-const AREA: usize = 7;
+use work_columns::AREA;
+use work_columns::LEVEL;
+use work_columns::PARENT;
+use work_columns::VALUE;
 
 // The first node, from node i up to the root, whose area is at least the limit.
 fn climb(w: &[u32], n: usize, limit: usize, i: usize) -> usize

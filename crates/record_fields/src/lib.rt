@@ -1,6 +1,5 @@
 // The fields of the record of the plate whose tree stands in the work space: measured, written, compared. These functions serve the crates
 // above, whose work space has the tree.
-use record_varint::Comparison;
 ghost use mathlib.Core.Path.{_≡_};
 ghost use Prim.Native.Nat.{_+_, _*_, _≤_, _<_};
 ghost use lib.ListN.{length};
@@ -11,14 +10,11 @@ ghost use Rattle.plate_greys.specs.Standing.{Standing};
 ghost use Rattle.record_parse.specs.Parse.{sameBytes};
 ghost use Rattle.record_parse.specs.Steps.{greysIn};
 ghost use Rattle.record_fields.specs.Fields.{nodeColumns, columnFields, ParentFits, TreeSpelt};
-
-const OWN: usize = 1;
-
-const LEVEL: usize = 3;
-
-const PARENT: usize = 5;
-
-const AREA: usize = 7;
+use record_varint::Comparison;
+use work_columns::AREA;
+use work_columns::LEVEL;
+use work_columns::OWN;
+use work_columns::PARENT;
 
 // Of node i, after the root: 0 the step back to its parent's number, 1 its rise above the parent's level, 2 its area.
 fn node_field(w: &[u32], n: usize, i: usize, part: usize) -> usize

@@ -6,6 +6,8 @@ ghost use Rattle.work_columns.specs.Columns.{Room};
 ghost use Rattle.record_parse.specs.Parse.{parse};
 ghost use Rattle.record_parse.specs.Steps.{parsedBy, ParsedWork, Known, NodeRead, NodesRead, GreysRead, TreeRead};
 use record_varint::Field;
+use work_columns::GREY;
+use work_columns::LEVEL;
 
 // What a record spells. `parsedBy` says it in the specification's terms.
 pub enum Parse {
@@ -21,15 +23,9 @@ pub enum Parse {
 pub enum Step {
     // The position after them.
     Next(usize),
-    // the specification's number.
+    // The specification's number.
     Refused(u32),
 }
-
-// The column of the greys, by pixel.
-const GREY: usize = 0;
-
-// The column of the levels, by node.
-const LEVEL: usize = 3;
 
 // Reads node i, after the root, and stores its level.
 fn read_node(s: &[u8], at: usize, work: &mut [u32], n: usize, i: usize) -> Step

@@ -25,7 +25,7 @@ fn refused(number: u32) -> CutListed
 }
 
 // The refusal ahead of any work, by the sizes of all but the record: those of opening, with 5 for a table that is too short ahead of 6; else 0.
-pub fn early_refusal(
+fn early_refusal(
     connectivity: u32,
     width: u32,
     height: u32,
