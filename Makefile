@@ -69,7 +69,7 @@ gate:
 check:
 	rt check
 
-# the second program's own tests; the cases of `vectors` and its answers are as stored, and so is what each other program prints
+# the second program's own tests; the cases of `test_vectors` and its answers are as stored, and so is what each other program prints
 reference:
 	cargo test $(SECOND) --quiet
 	cargo build $(SECOND) --release --quiet

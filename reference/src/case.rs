@@ -1,4 +1,4 @@
-//! A case of `vectors` is a line: the operation's name and then fields, each
+//! A case of `test_vectors` is a line: the operation's name and then fields, each
 //! a word and the numbers up to the next word, in decimal and parted by one
 //! space; `v*n` stands for n numbers v. An absent field has no number, or 0.
 

@@ -1,4 +1,4 @@
-//! The cases that `vectors` runs: the plates, records and files of which they
+//! The cases that `test_vectors` runs: the plates, records and files of which they
 //! are made, written out as lines.
 
 mod damage;

@@ -1,5 +1,5 @@
 //! `reference sizelist` prints sizelist's text for the plate file on standard
-//! input, `reference cases` the cases of the program `vectors`, `reference
+//! input, `reference cases` the cases of the program `test_vectors`, `reference
 //! vectors` what that program prints for the cases on standard input, and
 //! `reference deep` what the program `test_pgm_deep` prints.
 

@@ -1,4 +1,4 @@
-//! Cases run one by one, a line for each: what the program `vectors` prints.
+//! Cases run one by one, a line for each: what the program `test_vectors` prints.
 //! It is the operation's name, its answer and, after a bar each, every lent
 //! buffer as it was left, spelled as `case.rs` says.
 //!

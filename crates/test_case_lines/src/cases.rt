@@ -1,4 +1,4 @@
-// A case of the program `vectors`: a line taken apart. It is the operation's name and then fields, each a word and the numbers up to the next
+// A case of the program `test_vectors`: a line taken apart. It is the operation's name and then fields, each a word and the numbers up to the next
 // word, in decimal and parted by one space; `v*n` stands for n numbers v.
 ghost use Prim.Native.Nat.{_≤_};
 ghost use lib.ListN.{length};

@@ -1,3 +1,3 @@
-// The lines of the program `vectors`: a case taken apart, and buffers printed.
+// The lines of the program `test_vectors`: a case taken apart, and buffers printed.
 pub mod cases;
 pub mod lists;

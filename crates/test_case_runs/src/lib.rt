@@ -1,4 +1,4 @@
-// The operations, each run on a case of the program `vectors`: its answer is printed and then, after a bar each, every lent buffer as it was left.
+// The operations, each run on a case of the program `test_vectors`: its answer is printed and then, after a bar each, every lent buffer as it was left.
 pub mod files;
 pub mod outputs;
 pub mod tables;
