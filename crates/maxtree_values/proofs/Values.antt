@@ -16,7 +16,7 @@ use Rattle.theory_lists.proofs.Tests.{choice, orders, pick-no, pick-yes}
 use Rattle.work_columns.specs.Columns.{Stored, col}
 use Rattle.work_columns.specs.Layout.{AREA, LEVEL, PARENT, VALUE}
 use Rattle.work_columns.proofs.Columns.{frame-refl, frame-room, frame-trans}
-use Rattle.plate_greys.proofs.Views.{column-more}
+use Rattle.plate_greys.proofs.Sides.{column-more}
 use Rattle.maxtree_values.specs.Values.{Cut, Marked, Ones, Parents, Valued, cutValue, hasChild}
 
 -- ---- only the column VALUE changes

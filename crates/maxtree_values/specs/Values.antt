@@ -11,7 +11,7 @@ use Rattle.meaning.specs.Plate.{greatestGrey}
 use Rattle.meaning.specs.Sets.{bit, pick, some, table}
 use Rattle.work_columns.specs.Columns.{Frame, Room, col}
 use Rattle.work_columns.specs.Layout.{AREA, LEVEL, OWN, PARENT, VALUE}
-use Rattle.plate_greys.specs.View.{viewed}
+use Rattle.plate_greys.specs.Sides.{sideGrey}
 
 -- the column PARENT of at least one node: no parent is numbered after its child
 pub record Parents (n : ℕ) (w : List ℕ) (count : ℕ) : Type 0 where
@@ -60,7 +60,7 @@ pub record Writable (n : ℕ) (w : List ℕ) : Type 0 where
 
 -- what is written at p
 abbrev pub outValue : Bool → ℕ → List ℕ → ℕ → ℕ
-outValue negated n w p = viewed negated (col VALUE n w (col OWN n w p))
+outValue negated n w p = sideGrey negated (col VALUE n w (col OWN n w p))
 
 -- all values are written, and the columns are cleared
 pub record Delivered (negated : Bool) (n : ℕ) (w w′ out out′ : List ℕ) : Type 0 where

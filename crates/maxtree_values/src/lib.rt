@@ -74,7 +74,7 @@ fn out_value(w: &[u32], n: usize, negated: bool, p: usize) -> u8
 {
     let node = work_columns::get(w, n, OWN, p);
     let value = work_columns::get(w, n, VALUE, node);
-    plate_greys::view(negated, value) as u8
+    plate_greys::side_grey(negated, value) as u8
 }
 
 // Writes, for each pixel, the value of its own node, or the negative of that value.

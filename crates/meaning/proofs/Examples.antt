@@ -14,10 +14,10 @@ use Rattle.meaning.specs.Cut.{cut, counts, losses, total, darkest}
 use Rattle.meaning.specs.Record.{recordOf, encode}
 use Rattle.meaning.specs.Ink.{inkOf}
 use Rattle.meaning.specs.Answers.{cleanRefusal, maximaRefusal, treeRefusal}
-use Rattle.meaning.specs.Examples.{small, run, marked, Case, edges, steps, places}
+use Rattle.meaning.specs.Examples.{small, run, workedCases, Case, edges, steps, places}
 
 -- every worked case of SPECIFICATION 10
-pub marked-hold : map (λ (c : Case). run (c .job)) marked ≡ map (λ (c : Case). c .answer) marked
+pub marked-hold : map (λ (c : Case). run (c .job)) workedCases ≡ map (λ (c : Case). c .answer) workedCases
 unfolding run
 marked-hold = refl
 

@@ -41,8 +41,8 @@ abbrev raised : List ℕ
 raised = 30 ∷ 30 ∷ 30 ∷ 30 ∷ 30 ∷ 50 ∷ 30 ∷ 30 ∷ 30 ∷ 30 ∷ 30 ∷ 90 ∷ []
 
 -- the eleven worked cases of SPECIFICATION 10
-abbrev pub marked : List Case
-marked =
+abbrev pub workedCases : List Case
+workedCases =
     case (opening 4 1) small
     ∷ case (opening 4 2) pair
     ∷ case (opening 4 3) flat

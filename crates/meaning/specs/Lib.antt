@@ -1,4 +1,4 @@
--- The definitions that the contracts cite, in the words of docs/SPECIFICATION.md; docs/ARCHITECTURE.md says what each file has. They compute, so that the
+-- The definitions that the contracts cite, in the words of docs/SPECIFICATION.md; README lists what each file says. They compute, so that the
 -- checker evaluates the specification's examples, and they are naive on purpose.
 pub mod Sets
 pub mod Paths

@@ -16,9 +16,9 @@ use Rattle.pgm_header.specs.Grammar.{
   noLetters,
   blank,
   lineEnd,
-  digit,
+  isDigit,
   front,
-  decimal,
+  digitsValue,
   mix,
   comment,
   oneBlank,
@@ -78,8 +78,8 @@ gap-numbered s = after-numbered (oneBlank s) mix (blank-numbered s) mix-numbered
 number-numbered : (s : List ℕ) → Numbered (number s)
 unfolding number
 number-numbered s =
-    let n = front digit s in
-    picked (numberThen (decimal 0 (take n s)) (drop n s)) malformed tt (omega arith) (leb 1 n && leb n 5)
+    let n = front isDigit s in
+    picked (numberThen (digitsValue 0 (take n s)) (drop n s)) malformed tt (omega arith) (leb 1 n && leb n 5)
 
 opening-numbered : (s : List ℕ) → Numbered (opening s)
 unfolding opening

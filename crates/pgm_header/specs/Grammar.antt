@@ -23,8 +23,8 @@ inComment b = not (lineEnd b)
 abbrev pub opensComment : ℕ → Bool
 opensComment b = eqb b 35
 
-unfoldable pub digit : ℕ → Bool
-digit b = leb 48 b && leb b 57
+unfoldable pub isDigit : ℕ → Bool
+isDigit b = leb 48 b && leb b 57
 
 -- what stands at the front of some bytes: a number or a gap, with the bytes after it, or a fault with its number
 pub data Token : Type 0 where
@@ -76,14 +76,14 @@ front test [] = 0
 front test (b ∷ s) = elim (test b) [ true ↦ suc (front test s) | false ↦ 0 ]
 
 -- the number that the digits spell after v
-unfoldable pub decimal : ℕ → List ℕ → ℕ
-decimal v [] = v
-decimal v (d ∷ ds) = decimal (10 * v + (d - 48)) ds
+unfoldable pub digitsValue : ℕ → List ℕ → ℕ
+digitsValue v [] = v
+digitsValue v (d ∷ ds) = digitsValue (10 * v + (d - 48)) ds
 
 -- a number has one to five digits, leading zeros allowed
 unfoldable pub number : List ℕ → Token
-unfolding digit front decimal
-number s = let n = front digit s in pick (leb 1 n && leb n 5) (numberThen (decimal 0 (take n s)) (drop n s)) malformed
+unfolding isDigit front digitsValue
+number s = let n = front isDigit s in pick (leb 1 n && leb n 5) (numberThen (digitsValue 0 (take n s)) (drop n s)) malformed
 
 -- "P5" and the gap after it
 unfoldable pub opening : List ℕ → Token

@@ -3,7 +3,7 @@ use mathlib.Core.Path.{_≡_}
 use mathlib.Core.List.{List}
 use Prim.Native.Nat.{ℕ, _+_, _≤_}
 use lib.ListN.{length, drop}
-use Rattle.pgm_header.specs.Grammar.{Token, numberThen, gapThen, fault, malformed, ParsedHeader, sound, faulty, digit, front, mix}
+use Rattle.pgm_header.specs.Grammar.{Token, numberThen, gapThen, fault, malformed, ParsedHeader, sound, faulty, isDigit, front, mix}
 use Rattle.pgm_header.specs.declared.HeaderFault.{HeaderFault}
 use Rattle.pgm_header.specs.declared.HeaderFault.the-variants.{Letters, GapOrNumber}
 use Rattle.pgm_header.specs.declared.HeaderStep.{HeaderStep}
@@ -58,7 +58,7 @@ RasterWithin file (head.Faulty f) = Unit {0}
 -- from `at` to `end` stand one to five digits, and no digit after them
 pub record Digits (file : List ℕ) (at end : ℕ) : Type 0 where
   pub starts : at ≤ length file
-  pub ends : end ≡ at + front digit (drop at file)
+  pub ends : end ≡ at + front isDigit (drop at file)
   pub few : end ≤ at + 5
 
 -- ---- skipping blanks and comments

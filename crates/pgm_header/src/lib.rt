@@ -4,7 +4,7 @@ ghost use mathlib.Core.Path.{_≡_};
 ghost use Prim.Native.Nat.{_+_, _≤_};
 ghost use lib.ListN.{length, drop};
 ghost use lib.Seq.{slice};
-ghost use Rattle.pgm_header.specs.Grammar.{blank, lineEnd, inComment, digit, front, decimal, mix, comment, gap, oneBlank, number, opening, header};
+ghost use Rattle.pgm_header.specs.Grammar.{blank, lineEnd, inComment, isDigit, front, digitsValue, mix, comment, gap, oneBlank, number, opening, header};
 ghost use Rattle.pgm_header.specs.Steps.{faultNumber, Stepped, stepFault, headerOf, RasterWithin, Digits, Skipped};
 
 // How many comments `skip_blanks` and `skip_comment` skip before they hand the cursor back. It bounds the depth of their calls, and so the
@@ -71,7 +71,7 @@ fn is_blank(b: u8) -> bool
 }
 
 fn is_digit(b: u8) -> bool
-    ensures { λ r. ⌜ r ≡ digit b ⌝ }
+    ensures { λ r. ⌜ r ≡ isDigit b ⌝ }
 {
     b'0' <= b && b <= b'9'
 }
@@ -109,7 +109,7 @@ fn comment_end(file: &[u8], at: usize) -> usize
 // The place of the first byte from `at` on that is no digit, or the file's length.
 fn digits_end(file: &[u8], at: usize) -> usize
     requires { ⌜ at ≤ length (now file) ⌝ }
-    ensures { λ r. ⌜ r ≡ at + front digit (drop at (now (file .entry))) ⌝ }
+    ensures { λ r. ⌜ r ≡ at + front isDigit (drop at (now (file .entry))) ⌝ }
 {
     let mut i = at;
     while i < file.len() {
@@ -122,9 +122,9 @@ fn digits_end(file: &[u8], at: usize) -> usize
 }
 
 // The number that the digits from `at` to `end` spell.
-fn value_at(file: &[u8], at: usize, end: usize) -> u32
+fn digits_value(file: &[u8], at: usize, end: usize) -> u32
     requires { ⌜ Digits (now file) at end ⌝ }
-    ensures { λ r. ⌜ r ≡ decimal 0 (slice at end (now (file .entry))) ⌝ }
+    ensures { λ r. ⌜ r ≡ digitsValue 0 (slice at end (now (file .entry))) ⌝ }
 {
     let mut i = at;
     let mut v: u32 = 0;
@@ -243,7 +243,7 @@ impl Cursor {
         if 5 < end - at {
             return HeaderStep::Faulty(HeaderFault::GapOrNumber);
         }
-        HeaderStep::Number(value_at(file, at, end), Cursor { at: end })
+        HeaderStep::Number(digits_value(file, at, end), Cursor { at: end })
     }
 
     // "P5" and the gap after it.

@@ -29,22 +29,22 @@ use Rattle.work_columns.specs.Columns.{Frame, col}
 use Rattle.work_columns.specs.Layout.{AREA, GREY, LEVEL, OWN, PARENT, VALUE}
 use Rattle.work_columns.proofs.Columns.{frame-room}
 use Rattle.plate_greys.specs.Tree.{PlateTree}
-use Rattle.plate_greys.specs.View.{view, viewed}
-use Rattle.plate_greys.proofs.Views.{view-grey, view-length}
+use Rattle.plate_greys.specs.Sides.{sidePlate, sideGrey}
+use Rattle.plate_greys.proofs.Sides.{side-plate-grey, side-plate-length}
 use Rattle.maxtree_values.specs.Values.{Cut, Delivered, Marked, Parents, Valued, Writable, hasChild, outValue}
 use Rattle.maxtree_values.proofs.Values.{cut-value-no, cut-value-yes}
 use Rattle.plate_tree.proofs.Nodes.{cleared-space, listed-count, nodes-same}
 use Rattle.plate_filter.specs.Operations.{PlateAnswered, cleaned, column}
 
--- a plate that is viewed, from the values that are viewed
-pub view-table : (negated : Bool) (n : ℕ) (g : ℕ → ℕ) → view negated (table n g) ≡ table n (λ (p : ℕ). viewed negated (g p))
-view-table negated n g =
-    let len : length (view negated (table n g)) ≡ n = view-length negated (table n g) ∙ length-table n g in
-    let g′ : ℕ → ℕ = λ (p : ℕ). viewed negated (g p) in
-    ext-getD 0 (view negated (table n g)) (table n g′) (len ∙ sym (length-table n g′))
+-- a plate or its negative, from its values
+pub side-plate-table : (negated : Bool) (n : ℕ) (g : ℕ → ℕ) → sidePlate negated (table n g) ≡ table n (λ (p : ℕ). sideGrey negated (g p))
+side-plate-table negated n g =
+    let len : length (sidePlate negated (table n g)) ≡ n = side-plate-length negated (table n g) ∙ length-table n g in
+    let g′ : ℕ → ℕ = λ (p : ℕ). sideGrey negated (g p) in
+    ext-getD 0 (sidePlate negated (table n g)) (table n g′) (len ∙ sym (length-table n g′))
     (λ p l.
     let m : p < n = rw len at l in
-    view-grey negated (table n g) p (rw (length-table n g) m) ∙ rw (getD-table n g p 0 m) (sym (getD-table n g′ p 0 m)))
+    side-plate-grey negated (table n g) p (rw (length-table n g) m) ∙ rw (getD-table n g p 0 m) (sym (getD-table n g′ p 0 m)))
 
 -- ---- the tree of the plate f, or of its negative, in the work space w
 
@@ -137,15 +137,15 @@ module _ {negated : Bool} {k wd ht : ℕ} {f v w : List ℕ} {count : ℕ} (p : 
     pub cut-writable : Writable n w′
     cut-writable = writable a (λ q l. omega (arith, cut-opens q l, opened-below (p .facts .grid) crit g q, p .facts .tree .greys q l))
 
-    -- the opening of the plate that is viewed, by pixel
-    opened-viewed : opened k wd limit (view negated f) ≡ table n (openedAt n near keep g)
+    -- the opening of the plate or its negative, by pixel
+    opened-side : opened k wd limit (sidePlate negated f) ≡ table n (openedAt n near keep g)
     unfolding opened
-    opened-viewed = rw (view-length negated f, p .same)
+    opened-side = rw (side-plate-length negated f, p .same)
 
     pub cut-answer : table n (outValue negated n w′) ≡ cleaned negated k wd limit f
     cut-answer =
-        table-same n (outValue negated n w′) (λ (q : ℕ). viewed negated (openedAt n near keep g q)) (λ q l. ap (viewed negated) (cut-opens q l))
-        ∙ sym (view-table negated n (openedAt n near keep g)) ∙ ap (view negated) (sym opened-viewed)
+        table-same n (outValue negated n w′) (λ (q : ℕ). sideGrey negated (openedAt n near keep g q)) (λ q l. ap (sideGrey negated) (cut-opens q l))
+        ∙ sym (side-plate-table negated n (openedAt n near keep g)) ∙ ap (sidePlate negated) (sym opened-side)
 
 -- ---- the nodes without a child are the regional maxima
 

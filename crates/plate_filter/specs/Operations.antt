@@ -14,7 +14,7 @@ use Rattle.meaning.specs.Plate.{Plate, grey, touch}
 use Rattle.meaning.specs.Sets.{nth, table}
 use Rattle.work_columns.specs.Columns.{Room, col}
 use Rattle.work_columns.specs.Layout.{ANCHOR, AREA, LEVEL, PARENT}
-use Rattle.plate_greys.specs.View.{view}
+use Rattle.plate_greys.specs.Sides.{sidePlate}
 use Rattle.plate_tree.specs.Listing.{ListAnswered}
 
 -- ---- operations with one output, a number for each pixel, all of whose refusals precede any work
@@ -45,7 +45,7 @@ module _ (k w h : ℕ) where
 
 -- the answer of opening, or of closing as opening on the negative
 abbrev pub cleaned : Bool → ℕ → ℕ → ℕ → List ℕ → List ℕ
-cleaned negated k w limit f = view negated (opened k w limit (view negated f))
+cleaned negated k w limit f = sidePlate negated (opened k w limit (sidePlate negated f))
 
 -- ---- the node list: one output for each column
 

@@ -1,3 +1,3 @@
 -- Laws of a plate in the work space.
-pub mod Views
+pub mod Sides
 pub mod Tree

@@ -20,7 +20,7 @@ use Rattle.work_columns.specs.Layout.{Buildable, Built, GREY}
 use Rattle.work_columns.proofs.Columns.{frame-room, frame-trans}
 use Rattle.plate_refusals.proofs.Refusals.{Taken, plate-taken, taken-few}
 use Rattle.theory_connectivity.proofs.Sizes.{Sizes, grid-sizes}
-use Rattle.plate_greys.specs.Tree.{TreeFacts, Loaded, PlateTree, Ready}
+use Rattle.plate_greys.specs.Tree.{TreeFacts, Loaded, PlateTree, PlateReady}
 
 -- the tree's nodes: at least one, at most one for each pixel
 pub grow : {k wd ht n : ℕ} {w w′ : List ℕ} {count : ℕ} → Buildable k wd ht n w → Built k wd n w w′ count → TreeFacts k wd n w′ count
@@ -45,7 +45,7 @@ grow {k} {wd} {ht} {n} {w} {w′} {count} can did =
 
 -- ---- from a plate that is not refused to its tree
 
-module _ {k w h : ℕ} {f work : List ℕ} (can : Ready k w h f work) where
+module _ {k w h : ℕ} {f work : List ℕ} (can : PlateReady k w h f work) where
   taken : Taken k w h (length f)
   taken = plate-taken k w h (length f) (can .taken)
 

@@ -1,4 +1,4 @@
 -- A plate, or its negative, in the work space.
-pub mod View
+pub mod Sides
 pub mod Tree
 pub mod Standing

@@ -11,17 +11,17 @@ use Rattle.meaning.specs.Plate.{Plate, greatestGrey, grey, touch}
 use Rattle.theory_tree.specs.Tree.{Nodes}
 use Rattle.work_columns.specs.Columns.{Frame, Room, col}
 use Rattle.work_columns.specs.Layout.{GREY, Greys, TreeColumns}
-use Rattle.plate_greys.specs.View.{view}
+use Rattle.plate_greys.specs.Sides.{sidePlate}
 
 -- none of 1, 2 and 3 refuses the plate, and there is work space for it
-pub record Ready (k w h : ℕ) (f work : List ℕ) : Type 0 where
+pub record PlateReady (k w h : ℕ) (f work : List ℕ) : Type 0 where
   pub taken : plateRefusal k w h (length f) 0 ≡ 0
   pub room : 8 * (w * h) ≤ length work
 
 -- the greys of f, or of its negative, are copied in; no grey of f is above the greatest
 pub record Loaded (negated : Bool) (f work work′ : List ℕ) : Type 0 where
   pub frame : Frame (length f) work work′
-  pub same : col GREY (length f) work′ ≡ grey (view negated f)
+  pub same : col GREY (length f) work′ ≡ grey (sidePlate negated f)
   pub greys : Greys (length f) work′
   pub bytes : (p : ℕ) → p < length f → grey f p ≤ greatestGrey
 
@@ -38,5 +38,5 @@ pub record PlateTree (negated : Bool) (k wd ht : ℕ) (f work work′ : List ℕ
   pub plate : Plate k wd ht f
   pub frame : Frame (length f) work work′
   pub room : Room work′ (length f)
-  pub same : col GREY (length f) work′ ≡ grey (view negated f)
+  pub same : col GREY (length f) work′ ≡ grey (sidePlate negated f)
   pub facts : TreeFacts k wd (length f) work′ count

@@ -4,14 +4,14 @@ ghost use Prim.Native.Nat.{_≤_};
 ghost use lib.ListN.{length};
 ghost use Rattle.meaning.specs.Plate.{greatestGrey};
 ghost use Rattle.work_columns.specs.Columns.{Room};
-ghost use Rattle.plate_greys.specs.View.{viewed};
+ghost use Rattle.plate_greys.specs.Sides.{sideGrey};
 ghost use Rattle.plate_greys.specs.Tree.{Loaded};
 use work_columns::GREY;
 
 // A grey, or its negative.
-pub fn view(negated: bool, grey: usize) -> usize
+pub fn side_grey(negated: bool, grey: usize) -> usize
     requires { ⌜ grey ≤ greatestGrey ⌝ }
-    ensures { λ r. ⌜ (r ≡ viewed negated grey) × (r ≤ greatestGrey) ⌝ }
+    ensures { λ r. ⌜ (r ≡ sideGrey negated grey) × (r ≤ greatestGrey) ⌝ }
 {
     if negated { 255 - grey } else { grey }
 }
@@ -24,7 +24,7 @@ pub fn load(image: &[u8], negated: bool, work: &mut [u32])
     let n = image.len();
     let mut p: usize = 0;
     while p < n {
-        let g = view(negated, image[p] as usize);
+        let g = side_grey(negated, image[p] as usize);
         work_columns::put(work, n, GREY, p, g);
         p += 1;
     }

@@ -10,7 +10,7 @@ use borrow.Author.Tests.{ne-eqb, lt-ltb, le-ltb}
 use Rattle.meaning.specs.Answers.{outRefusal, plateRefusal, workRefusal}
 use Rattle.meaning.specs.Nodes.{nodesOf}
 use Rattle.plate_refusals.proofs.Refusals.{Listable, plate-later, tree-early, tree-first, tree-later, tree-none}
-use Rattle.plate_greys.specs.Tree.{PlateTree, Ready}
+use Rattle.plate_greys.specs.Tree.{PlateTree, PlateReady}
 use Rattle.plate_tree.specs.Listing.{ListAnswered, Started, nodeListRefusal}
 use Rattle.plate_tree.proofs.Nodes.{cleared-space, listed-count}
 
@@ -34,7 +34,7 @@ module _ (k w h : ℕ) (f work : List ℕ) (places : ℕ) {r : ℕ} (e : r ≡ p
     listable : Listable k w h (length f) (length work)
     listable = tree-none k w h (length f) (length work) (sym e ∙ z)
 
-    pub started-ready : Ready k w h f work
+    pub started-ready : PlateReady k w h f work
     started-ready = record { taken = plate-later k w h (length f) 0 (listable .taken); room = listable .space }
 
     module _ {w₁ : List ℕ} {count : ℕ} (p : PlateTree false k w h f work w₁ count) where

@@ -1,6 +1,6 @@
 // The component tree of a plate, from the plate to the columns of the work space, and the start of a node list from it.
 ghost use mathlib.Core.Path.{_≡_};
-ghost use Rattle.plate_greys.specs.Tree.{Ready, PlateTree};
+ghost use Rattle.plate_greys.specs.Tree.{PlateReady, PlateTree};
 ghost use Rattle.plate_tree.specs.Listing.{Started};
 
 // Builds the component tree of a plate, or of its negative, in the work space. Returns the number of nodes.
@@ -12,7 +12,7 @@ pub fn plate_tree(
     connectivity: u32,
     work: &mut [u32],
 ) -> usize
-    requires { ⌜ Ready connectivity width height (now image) (now work) ⌝ }
+    requires { ⌜ PlateReady connectivity width height (now image) (now work) ⌝ }
     ensures { λ r. ⌜ PlateTree negated connectivity width height (now (image .entry)) (now (work .entry)) (now (work .exit)) r ⌝ }
 {
     plate_greys::load(image, negated, work);

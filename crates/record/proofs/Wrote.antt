@@ -10,7 +10,7 @@ use Rattle.meaning.specs.Answers.{outRefusal, over, plateRefusal, workAfter, wo
 use Rattle.meaning.specs.Record.{recordOf}
 use Rattle.plate_refusals.proofs.Refusals.{Listable, tree-early, tree-first, tree-later, plate-later}
 use Rattle.plate_greys.specs.Standing.{Standing}
-use Rattle.plate_greys.specs.Tree.{PlateTree, Ready}
+use Rattle.plate_greys.specs.Tree.{PlateTree, PlateReady}
 use Rattle.work_columns.proofs.Columns.{cleared}
 use Rattle.record_parse.specs.Steps.{greysIn}
 use Rattle.record_fields.proofs.Standing.{standing-here, standing-plate}
@@ -28,7 +28,7 @@ wrote-refused k w h f out work {r} e x =
     record { answer = rw (is, z); output = rw (is, z); space = rw (is, z, y); accepted = λ none. absurd (x (sym is ∙ none)) }
 
 -- the tree can be made
-pub wrote-ready : {k w h : ℕ} {f work : List ℕ} → Listable k w h (length f) (length work) → Ready k w h f work
+pub wrote-ready : {k w h : ℕ} {f work : List ℕ} → Listable k w h (length f) (length work) → PlateReady k w h f work
 wrote-ready {k} {w} {h} {f} l = record { taken = plate-later k w h (length f) 0 (l .taken); room = l .space }
 
 -- nothing but 5 is left to refuse, and the tree is made

@@ -89,7 +89,7 @@ fn read_greys(s: &[u8], start: usize, work: &mut [u32], n: usize, count: usize) 
 }
 
 // Reads what follows the node count: root level, root area, the other nodes, the own nodes, and the end.
-fn read_tree(s: &[u8], at: usize, work: &mut [u32], n: usize, count: usize) -> Step
+fn read_tree_fields(s: &[u8], at: usize, work: &mut [u32], n: usize, count: usize) -> Step
     requires { ⌜ Room (now work) n × ((1 ≤ count) × (count ≤ n)) ⌝ }
     ensures { λ r. ⌜ TreeRead (now (s .entry)) at n (now (work .entry)) (now (work .exit)) count r ⌝ }
 {
@@ -148,7 +148,7 @@ pub fn parse_record(s: &[u8], work: &mut [u32]) -> Parse
     if work.len() < 8 * n {
         return Parse::Early(6);
     }
-    let tree = read_tree(s, at4, work, n, count as usize);
+    let tree = read_tree_fields(s, at4, work, n, count as usize);
     if let Step::Refused(number) = tree {
         return Parse::Late(number, n);
     }

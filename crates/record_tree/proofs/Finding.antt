@@ -22,7 +22,7 @@ use Rattle.theory_connectivity.proofs.Sizes.{grid-sizes}
 use Rattle.plate_greys.specs.Standing.{Standing}
 use Rattle.plate_greys.specs.Tree.{TreeFacts}
 use Rattle.plate_greys.proofs.Tree.{grow}
-use Rattle.plate_greys.proofs.Views.{column-plate}
+use Rattle.plate_greys.proofs.Sides.{column-plate}
 use Rattle.record_parse.specs.Parse.{Parsed, compared, parse, plate, readOf, sameBytes}
 use Rattle.record_parse.proofs.Sound.{parse-plate}
 use Rattle.record_parse.specs.Steps.{ParsedWork, greysIn, parsedBy}

@@ -3,7 +3,6 @@ use native.Mathlib.Omega.{arith}
 use borrow.Author.Needs.{needs}
 use Rattle.maxtree_values.proofs.out_value.Statement.{statement}
 use Rattle.maxtree_values.proofs.out_value.Tie as tie
-use Rattle.plate_greys.specs.View.{view}
 
 get-requires : tie.Need-get-requires
 get-requires c κs = search needs
@@ -13,8 +12,8 @@ get-requires-2 c κs =
     let s = c .before .before in
     (s .pre .0 .room, (omega arith, omega (arith, c .get .ensures .0, s .pre .0 .owns (s .args .p) (s .pre .1))))
 
-view-requires : tie.Need-view-requires
-view-requires c κs =
+side-grey-requires : tie.Need-side-grey-requires
+side-grey-requires c κs =
     let s = c .before .before .before in
     rw (c .get2 .ensures .0, c .before .get .ensures .0) (s .pre .0 .low (s .args .p) (s .pre .1))
 
@@ -22,7 +21,7 @@ cast-result : tie.Need-cast-result
 cast-result c = search needs
 
 returns : tie.Need-returns
-returns c = rw (c .view .ensures .0, c .before .get2 .ensures .0, c .before .before .get .ensures .0)
+returns c = rw (c .side-grey .ensures .0, c .before .get2 .ensures .0, c .before .before .get .ensures .0)
 
 pub out-value-spec : {M : Type 1} → statement M
-out-value-spec = tie.close (tie.spec get-requires get-requires-2 view-requires cast-result returns)
+out-value-spec = tie.close (tie.spec get-requires get-requires-2 side-grey-requires cast-result returns)

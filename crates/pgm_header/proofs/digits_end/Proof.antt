@@ -4,19 +4,19 @@ use Prim.Native.Nat.{_-_}
 use native.Mathlib.Omega.{arith}
 use borrow.Author.Tests.{not-true, not-false}
 use lib.ListN.{length}
-use Rattle.pgm_header.specs.Grammar.{digit}
+use Rattle.pgm_header.specs.Grammar.{isDigit}
 use Rattle.pgm_header.proofs.Front.{Passed, passed-first, passed-more, passed-stop, passed-end}
 use Rattle.pgm_header.proofs.digits_end.Statement.{statement}
 use Rattle.pgm_header.proofs.digits_end.Tie as tie
 
 abbrev Inv-loop : tie.InvT-loop
-Inv-loop file at i₀ i = Passed digit file at i
+Inv-loop file at i₀ i = Passed isDigit file at i
 
 abbrev μ-loop : tie.MeasureT-loop
 μ-loop file at i₀ i = length file - i
 
 loop-holds : tie.Need-loop-holds Inv-loop μ-loop
-loop-holds c = passed-first digit _ _ (c .before .pre)
+loop-holds c = passed-first isDigit _ _ (c .before .pre)
 
 shared-slice-read-is-digit : tie.Need-shared-slice-read-is-digit Inv-loop μ-loop
 shared-slice-read-is-digit c = omega arith
@@ -28,7 +28,7 @@ returns : tie.Need-returns Inv-loop μ-loop
 returns c =
     let call = c .before in
     let turn = call .before .before in
-    passed-stop digit (turn .before .loop .inv) (turn .loop-test .taken) (sym (call .is-digit .ensures) ∙ not-true _ (c .if1 .taken))
+    passed-stop isDigit (turn .before .loop .inv) (turn .loop-test .taken) (sym (call .is-digit .ensures) ∙ not-true _ (c .if1 .taken))
 
 add-i : tie.Need-add-i Inv-loop μ-loop
 add-i c = omega arith
@@ -40,10 +40,10 @@ loop-again : tie.Need-loop-again Inv-loop μ-loop
 loop-again c =
     let call = c .before in
     let turn = call .before .before in
-    passed-more digit (turn .before .loop .inv) (turn .loop-test .taken) (sym (call .is-digit .ensures) ∙ not-false _ (c .if1 .left))
+    passed-more isDigit (turn .before .loop .inv) (turn .loop-test .taken) (sym (call .is-digit .ensures) ∙ not-false _ (c .if1 .left))
 
 returns-2 : tie.Need-returns-2 Inv-loop μ-loop
-returns-2 c = passed-end digit (c .before .loop .inv) (c .loop-test .left)
+returns-2 c = passed-end isDigit (c .before .loop .inv) (c .loop-test .left)
 
 pub digits-end-spec : {M : Type 1} → statement M
 digits-end-spec =

@@ -1,15 +1,15 @@
 -- A byte is a digit.
 use borrow.Author.Tests.{le-leb, lt-leb}
-use Rattle.pgm_header.specs.Grammar.{digit}
+use Rattle.pgm_header.specs.Grammar.{isDigit}
 use Rattle.pgm_header.proofs.is_digit.Statement.{statement}
 use Rattle.pgm_header.proofs.is_digit.Tie as tie
 
 returns : tie.Need-returns
-unfolding digit
+unfolding isDigit
 returns c = rw (le-leb _ _ (c .if1 .taken))
 
 returns-2 : tie.Need-returns-2
-unfolding digit
+unfolding isDigit
 returns-2 c = rw (lt-leb _ _ (c .if1 .left))
 
 pub is-digit-spec : {M : Type 1} → statement M

@@ -4,8 +4,7 @@ use native.Mathlib.Omega.{arith}
 use Rattle.plate_greys.proofs.load.Statement.{statement}
 use Rattle.plate_greys.proofs.load.Tie as tie
 use Rattle.work_columns.proofs.Columns.{before, frame-room}
-use Rattle.plate_greys.specs.View.{view}
-use Rattle.plate_greys.proofs.Views.{Loading, loading-done, loading-first, loading-more}
+use Rattle.plate_greys.proofs.Sides.{Loading, loading-done, loading-first, loading-more}
 
 abbrev Inv-loop : tie.InvT-loop
 Inv-loop image negated work₀ n p₀ work p = Loading negated image work₀ work p
@@ -16,14 +15,14 @@ abbrev μ-loop : tie.MeasureT-loop
 loop-holds : tie.Need-loop-holds Inv-loop μ-loop
 loop-holds c = loading-first
 
-shared-slice-read-view : tie.Need-shared-slice-read-view Inv-loop μ-loop
-shared-slice-read-view c = omega arith
+shared-slice-read-side-grey : tie.Need-shared-slice-read-side-grey Inv-loop μ-loop
+shared-slice-read-side-grey c = omega arith
 
-cast-view : tie.Need-cast-view Inv-loop μ-loop
-cast-view c = omega (arith, c .shared-slice-known2 .given (c .before .before .loop .p))
+cast-side-grey : tie.Need-cast-side-grey Inv-loop μ-loop
+cast-side-grey c = omega (arith, c .shared-slice-known2 .given (c .before .before .loop .p))
 
-view-requires : tie.Need-view-requires Inv-loop μ-loop
-view-requires c κs = omega (arith, c .shared-slice-known2 .given (c .before .before .loop .p))
+side-grey-requires : tie.Need-side-grey-requires Inv-loop μ-loop
+side-grey-requires c κs = omega (arith, c .shared-slice-known2 .given (c .before .before .loop .p))
 
 put-requires : tie.Need-put-requires Inv-loop μ-loop
 put-requires c κs =
@@ -40,7 +39,7 @@ loop-again : tie.Need-loop-again Inv-loop μ-loop
 loop-again c =
     let l = c .before .before .before .before .before .before .before in
     loading-more (l .loop .inv) (c .before .before .before .before .before .before .loop-test .taken)
-    (c .before .before .before .before .view .ensures .0)
+    (c .before .before .before .before .side-grey .ensures .0)
     (c .before .before .put .ensures)
 
 same-length : tie.Need-same-length Inv-loop μ-loop
@@ -58,9 +57,9 @@ load-spec =
     Inv-loop
     μ-loop
     loop-holds
-    shared-slice-read-view
-    cast-view
-    view-requires
+    shared-slice-read-side-grey
+    cast-side-grey
+    side-grey-requires
     put-requires
     add-p
     loop-less

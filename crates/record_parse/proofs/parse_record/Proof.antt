@@ -211,8 +211,8 @@ returns-7 c =
 cast-read-tree : tie.Need-cast-read-tree
 cast-read-tree c = search needs
 
-read-tree-requires : tie.Need-read-tree-requires
-read-tree-requires c κs =
+read-tree-fields-requires : tie.Need-read-tree-fields-requires
+read-tree-fields-requires c κs =
     let a = c .before .before in
     (room4 (c .before), (count4 a .some, count4 a .most))
 
@@ -227,7 +227,7 @@ returns-8 c =
     let t = c .before .before .before .before .before in
     let e = t .before .before in
     let a = e .before in
-    late-answer (spelt (start4 a)) (k4 a) (w4 a) (h4 a) (room4 e) (t .read-tree .ensures) (begun (count4 a) (e .if3 .left)) (c .before .tree .given .1)
+    late-answer (spelt (start4 a)) (k4 a) (w4 a) (h4 a) (room4 e) (t .read-tree-fields .ensures) (begun (count4 a) (e .if3 .left)) (c .before .tree .given .1)
 
 enum-told-5 : tie.Need-enum-told-5
 enum-told-5 c = search needs
@@ -240,7 +240,7 @@ returns-9 c =
     let t = c .before .before .before .before in
     let e = t .before .before in
     let a = e .before in
-    plate-answer (spelt (start4 a)) (k4 a) (w4 a) (h4 a) (room4 e) (t .read-tree .ensures) (begun (count4 a) (e .if3 .left)) (c .enum-told5 .given .1)
+    plate-answer (spelt (start4 a)) (k4 a) (w4 a) (h4 a) (room4 e) (t .read-tree-fields .ensures) (begun (count4 a) (e .if3 .left)) (c .enum-told5 .given .1)
 
 pub parse-record-spec : {M : Type 1} → statement M
 parse-record-spec =
@@ -274,7 +274,7 @@ parse-record-spec =
     mul-if3
     returns-7
     cast-read-tree
-    read-tree-requires
+    read-tree-fields-requires
     enum-known-tree
     same-length
     returns-8

@@ -22,14 +22,14 @@ sub-if3 c = search needs
 returns-3 : tie.Need-returns-3
 returns-3 c = faulted GapOrNumber (number-long _ _ _ (c .before .before .digits-end .ensures) (c .if3 .taken))
 
-value-at-requires : tie.Need-value-at-requires
-value-at-requires c κs = search needs
+digits-value-requires : tie.Need-digits-value-requires
+digits-value-requires c κs = search needs
 
 returns-4 : tie.Need-returns-4
 returns-4 c =
     let within = c .before .before .before .before .if1 .left in
     number-step _ _ _ (c .before .before .before .digits-end .ensures) (omega arith) (c .before .before .if2 .left) (c .before .if3 .left)
-    (c .value-at .ensures)
+    (c .digits-value .ensures)
 
 pub number-spec : {M : Type 1} → statement M
-number-spec = tie.close (tie.spec returns digits-end-requires returns-2 sub-if3 returns-3 value-at-requires returns-4)
+number-spec = tie.close (tie.spec returns digits-end-requires returns-2 sub-if3 returns-3 digits-value-requires returns-4)

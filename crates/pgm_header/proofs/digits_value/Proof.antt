@@ -2,8 +2,8 @@
 use Prim.Native.Nat.{_-_}
 use native.Mathlib.Omega.{arith}
 use Rattle.pgm_header.proofs.Digits.{Spelling, spelling-first, spelling-small, spelling-within, spelling-digit, spelling-more, spelling-done}
-use Rattle.pgm_header.proofs.value_at.Statement.{statement}
-use Rattle.pgm_header.proofs.value_at.Tie as tie
+use Rattle.pgm_header.proofs.digits_value.Statement.{statement}
+use Rattle.pgm_header.proofs.digits_value.Tie as tie
 
 abbrev Inv-loop : tie.InvT-loop
 Inv-loop file at end i₀ v₀ i v = Spelling file at end i v
@@ -53,8 +53,8 @@ loop-again c =
 returns : tie.Need-returns Inv-loop μ-loop
 returns c = spelling-done (c .before .before .pre) (c .before .loop .inv) (c .loop-test .left)
 
-pub value-at-spec : {M : Type 1} → statement M
-value-at-spec =
+pub digits-value-spec : {M : Type 1} → statement M
+digits-value-spec =
     tie.close
     (tie.spec
     Inv-loop

@@ -1,7 +1,7 @@
--- `record_parse::read_tree` meets its contract: what was read so far says which case of `fromRoot` holds.
+-- `record_parse::read_tree_fields` meets its contract: what was read so far says which case of `fromRoot` holds.
 use borrow.Author.Needs.{needs}
-use Rattle.record_parse.proofs.read_tree.Statement.{statement}
-use Rattle.record_parse.proofs.read_tree.Tie as tie
+use Rattle.record_parse.proofs.read_tree_fields.Statement.{statement}
+use Rattle.record_parse.proofs.read_tree_fields.Tie as tie
 use mathlib.Core.List.{List}
 use Prim.Native.Nat.{ℕ}
 use native.Mathlib.Omega.{arith}
@@ -152,8 +152,8 @@ returns-6 c =
     tree-done (rooted2 (root n)) (put-of n .put .ensures) (n .read-nodes .ensures) (k .before .nodes .given .1) (g .read-greys .ensures)
     (d .before .greys .given .1) (c .if1 .left)
 
-pub read-tree-spec : {M : Type 1} → statement M
-read-tree-spec =
+pub read-tree-fields-spec : {M : Type 1} → statement M
+read-tree-fields-spec =
     tie.close
     (tie.spec
     read-field-requires

@@ -6,9 +6,9 @@ use Rattle.meaning.specs.Plate.{greatestGrey, negative}
 use Rattle.meaning.specs.Sets.{pick}
 
 -- a grey, or its negative
-abbrev pub viewed : Bool → ℕ → ℕ
-viewed negated g = pick negated (greatestGrey - g) g
+abbrev pub sideGrey : Bool → ℕ → ℕ
+sideGrey negated g = pick negated (greatestGrey - g) g
 
 -- a plate, or its negative
-abbrev pub view : Bool → List ℕ → List ℕ
-view negated f = pick negated (negative f) f
+abbrev pub sidePlate : Bool → List ℕ → List ℕ
+sidePlate negated f = pick negated (negative f) f

@@ -16,22 +16,22 @@ use Rattle.work_columns.specs.Columns.{Frame, Stored, col}
 use Rattle.work_columns.specs.Layout.{GREY}
 use Rattle.work_columns.proofs.Columns.{frame-refl, frame-trans}
 use Rattle.plate_greys.specs.Tree.{Loaded}
-use Rattle.plate_greys.specs.View.{view, viewed}
+use Rattle.plate_greys.specs.Sides.{sidePlate, sideGrey}
 
-pub view-length : (negated : Bool) (f : List ℕ) → length (view negated f) ≡ length f
+pub side-plate-length : (negated : Bool) (f : List ℕ) → length (sidePlate negated f) ≡ length f
 unfolding negative
-view-length true f = length-map f (λ (g : ℕ). greatestGrey - g)
-view-length false f = refl
+side-plate-length true f = length-map f (λ (g : ℕ). greatestGrey - g)
+side-plate-length false f = refl
 
-pub viewed-low : (negated : Bool) (g : ℕ) → g ≤ greatestGrey → viewed negated g ≤ greatestGrey
-viewed-low true g l = omega arith
-viewed-low false g l = l
+pub side-grey-low : (negated : Bool) (g : ℕ) → g ≤ greatestGrey → sideGrey negated g ≤ greatestGrey
+side-grey-low true g l = omega arith
+side-grey-low false g l = l
 
 -- the grey of a pixel of the negative is the negative of its grey
-pub view-grey : (negated : Bool) (f : List ℕ) (p : ℕ) → p < length f → grey (view negated f) p ≡ viewed negated (grey f p)
+pub side-plate-grey : (negated : Bool) (f : List ℕ) (p : ℕ) → p < length f → grey (sidePlate negated f) p ≡ sideGrey negated (grey f p)
 unfolding negative
-view-grey true f p l = getD-map (λ (g : ℕ). greatestGrey - g) f p l
-view-grey false f p l = refl
+side-plate-grey true f p l = getD-map (λ (g : ℕ). greatestGrey - g) f p l
+side-plate-grey false f p l = refl
 
 -- beyond its pixels a plate is 0, as a column is beyond its end
 pub column-plate : (c n : ℕ) (w f : List ℕ) → length f ≡ n → ((p : ℕ) → p < n → col c n w p ≡ grey f p) → col c n w ≡ grey f
@@ -58,25 +58,25 @@ column-more {i = i} g s l e done j h = elim (decLt j i) [
 pub record Loading (negated : Bool) (f w w′ : List ℕ) (i : ℕ) : Type 0 where
   pub bound : i ≤ length f
   pub frame : Frame (length f) w w′
-  pub done : (j : ℕ) → j < i → col GREY (length f) w′ j ≡ viewed negated (grey f j)
+  pub done : (j : ℕ) → j < i → col GREY (length f) w′ j ≡ sideGrey negated (grey f j)
 
 module _ {negated : Bool} {f w : List ℕ} where
   pub loading-first : Loading negated f w w 0
   loading-first = record { bound = omega arith; frame = frame-refl (length f) w; done = λ j l. absurd (omega arith) }
 
-  pub loading-more : {w′ w″ : List ℕ} {i v : ℕ} → Loading negated f w w′ i → i < length f → v ≡ viewed negated (grey f i)
+  pub loading-more : {w′ w″ : List ℕ} {i v : ℕ} → Loading negated f w w′ i → i < length f → v ≡ sideGrey negated (grey f i)
       → Stored w′ w″ (length f) GREY i v → Loading negated f w w″ (i + 1)
   loading-more {i = i} a l e s = record {
     bound = omega arith;
     frame = frame-trans (a .frame) (s .frame);
-    done = column-more (λ (j : ℕ). viewed negated (grey f j)) s l e (a .done);
+    done = column-more (λ (j : ℕ). sideGrey negated (grey f j)) s l e (a .done);
   }
 
   pub loading-done : {w′ : List ℕ} {i : ℕ} → Loading negated f w w′ i → length f ≤ i → ((p : ℕ) → grey f p ≤ greatestGrey) → Loaded negated f w w′
   loading-done {w′} {i} a l low = record {
     frame = a .frame;
-    same = column-plate GREY (length f) w′ (view negated f) (view-length negated f)
-        (λ p m. a .done p (omega arith) ∙ sym (view-grey negated f p m));
-    greys = λ p m. omega (arith, a .done p (omega arith), viewed-low negated (grey f p) (low p));
+    same = column-plate GREY (length f) w′ (sidePlate negated f) (side-plate-length negated f)
+        (λ p m. a .done p (omega arith) ∙ sym (side-plate-grey negated f p m));
+    greys = λ p m. omega (arith, a .done p (omega arith), side-grey-low negated (grey f p) (low p));
     bytes = λ p m. low p;
   }
