@@ -208,8 +208,8 @@ returns-7 c =
     let a = c .before in
     early-answer (spelt (start4 a)) (now (start4 a .args .work)) (too-short (count4 a) (c .if3 .taken))
 
-cast-read-tree : tie.Need-cast-read-tree
-cast-read-tree c = search needs
+cast-read-tree-fields : tie.Need-cast-read-tree-fields
+cast-read-tree-fields c = search needs
 
 read-tree-fields-requires : tie.Need-read-tree-fields-requires
 read-tree-fields-requires c κs =
@@ -273,7 +273,7 @@ parse-record-spec =
     cast-n
     mul-if3
     returns-7
-    cast-read-tree
+    cast-read-tree-fields
     read-tree-fields-requires
     enum-known-tree
     same-length
