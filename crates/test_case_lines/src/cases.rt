@@ -185,13 +185,14 @@ pub fn list(line: &[u8], name: &[u8], bytes: &mut [u8]) -> usize
     n
 }
 
-// Where the operation's name ends.
-pub fn name_end(line: &[u8]) -> usize
-    ensures { λ r. ⌜ r ≤ length (now (line .entry)) ⌝ }
+// The place of the first byte `stop` from `at` on, or the end.
+pub fn end_at(bytes: &[u8], at: usize, stop: u8) -> usize
+    requires { ⌜ at ≤ length (now bytes) ⌝ }
+    ensures { λ r. ⌜ (at ≤ r) × (r ≤ length (now (bytes .entry))) ⌝ }
 {
-    let mut i: usize = 0;
-    while i < line.len() {
-        if line[i] == b' ' {
+    let mut i = at;
+    while i < bytes.len() {
+        if bytes[i] == stop {
             return i;
         }
         i += 1;

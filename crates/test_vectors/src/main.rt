@@ -52,7 +52,7 @@ fn run_bytes(line: &[u8], bytes: &[u8]) {
 }
 
 fn print_name(line: &[u8]) {
-    let end = cases::name_end(line);
+    let end = cases::end_at(line, 0, b' ');
     io::write_all(STDOUT_FILENO, &line[..end]);
 }
 
@@ -65,25 +65,10 @@ fn run_line(line: &[u8]) {
     io::write_all(STDOUT_FILENO, b"\n");
 }
 
-// Where a line that begins at `at` ends.
-fn line_end(file: &[u8], at: usize) -> usize
-    requires { ⌜ at ≤ length (now file) ⌝ }
-    ensures { λ r. ⌜ (at ≤ r) × (r ≤ length (now (file .entry))) ⌝ }
-{
-    let mut i = at;
-    while i < file.len() {
-        if file[i] == b'\n' {
-            return i;
-        }
-        i += 1;
-    }
-    i
-}
-
 fn run_lines(file: &[u8]) {
     let mut at: usize = 0;
     while at < file.len() {
-        let end = line_end(file, at);
+        let end = cases::end_at(file, at, b'\n');
         run_line(&file[at..end]);
         if file.len() <= end {
             return;

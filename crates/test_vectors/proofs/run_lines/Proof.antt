@@ -14,8 +14,8 @@ abbrev μ-loop : tie.MeasureT-loop
 loop-holds : tie.Need-loop-holds Inv-loop μ-loop
 loop-holds c = omega arith
 
-line-end-requires : tie.Need-line-end-requires Inv-loop μ-loop
-line-end-requires c κs = omega arith
+end-at-requires : tie.Need-end-at-requires Inv-loop μ-loop
+end-at-requires c κs = omega arith
 
 sub-run-line : tie.Need-sub-run-line Inv-loop μ-loop
 sub-run-line c = omega arith
@@ -51,7 +51,7 @@ run-lines-spec =
     Inv-loop
     μ-loop
     loop-holds
-    line-end-requires
+    end-at-requires
     sub-run-line
     part-run-line-start
     part-run-line-end

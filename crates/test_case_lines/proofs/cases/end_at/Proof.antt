@@ -1,15 +1,15 @@
--- `cases::name_end` stays inside the line, and ends.
+-- `end_at` stays inside the bytes, and ends.
 use Prim.Native.Nat.{_-_, _≤_}
 use lib.ListN.{length}
 use native.Mathlib.Omega.{arith}
-use Rattle.test_case_lines.proofs.cases.name_end.Statement.{statement}
-use Rattle.test_case_lines.proofs.cases.name_end.Tie as tie
+use Rattle.test_case_lines.proofs.cases.end_at.Statement.{statement}
+use Rattle.test_case_lines.proofs.cases.end_at.Tie as tie
 
 abbrev Inv-loop : tie.InvT-loop
-Inv-loop line i₀ i = i ≤ length line
+Inv-loop bytes at stop i₀ i = (at ≤ i) × (i ≤ length bytes)
 
 abbrev μ-loop : tie.MeasureT-loop
-μ-loop line i₀ i = length line - i
+μ-loop bytes at stop i₀ i = length bytes - i
 
 loop-holds : tie.Need-loop-holds Inv-loop μ-loop
 loop-holds c = omega arith
@@ -32,8 +32,8 @@ loop-again c = omega arith
 returns-2 : tie.Need-returns-2 Inv-loop μ-loop
 returns-2 c = omega arith
 
-pub name-end-spec : {M : Type 1} → statement M
-name-end-spec =
+pub end-at-spec : {M : Type 1} → statement M
+end-at-spec =
     tie.close
     (tie.spec
     Inv-loop
