@@ -1,2 +1,2 @@
--- The law that turns a computed test of the whole table into the rule at each entry.
-pub mod Table
+-- The law of rounding over any divisor.
+pub mod Rounding

@@ -12,7 +12,7 @@ use Rattle.meaning.specs.Maxima.{marks}
 use Rattle.meaning.specs.Nodes.{nodesOf}
 use Rattle.meaning.specs.Cut.{cut, counts, losses, total, darkest}
 use Rattle.meaning.specs.Record.{recordOf, encode}
-use Rattle.meaning.specs.Ink.{inkOf}
+use Rattle.meaning.specs.Ink.{rounded, inkOf}
 use Rattle.meaning.specs.Answers.{cleanRefusal, maximaRefusal, treeRefusal}
 use Rattle.meaning.specs.Examples.{small, run, workedCases, Case, edges, steps, places}
 
@@ -80,6 +80,11 @@ pub large-patch : atLeast (attribute 65536) 65536 (λ (q : ℕ). true) ≡ true
 large-patch = rw (whole 65536)
 
 -- ---- ink and refusals
+
+-- 4/10, 5/10 and 6/10; 1/2 and 3/2, and 7/3: halves go up
+pub halves-up : rounded 4 10 ∷ rounded 5 10 ∷ rounded 6 10 ∷ rounded 1 2 ∷ rounded 3 2 ∷ rounded 7 3 ∷ [] ≡ 0 ∷ 1 ∷ 1 ∷ 1 ∷ 2 ∷ 2 ∷ []
+unfolding rounded
+halves-up = refl
 
 -- the ink percentage is the nearest whole number, for each of the 256 greys
 pub ink-nearest : table 256 (λ (g : ℕ). ltb (2 * apart (greatestGrey * inkOf g) ((greatestGrey - g) * 100)) greatestGrey) ≡ table 256 (λ (g : ℕ). true)

@@ -1,24 +1,27 @@
--- `ink::ink_percentage` meets its contract: the whole table passes the test of its rule.
--- Assumes nothing.
-use mathlib.Core.List.{List}
-use Prim.Native.Nat.{ℕ}
+-- `ink::ink_percentage` meets its contract: what is rounded is the formula of the ink percentage.
 use borrow.Author.Needs.{needs}
-use Rattle.ink.proofs.Table.{every, right, percentages}
+use Rattle.meaning.specs.Ink.{inkOf}
+use Rattle.ink.proofs.Rounding.{percentage, ink-most}
 use Rattle.ink.proofs.ink_percentage.Statement.{statement}
 use Rattle.ink.proofs.ink_percentage.Tie as tie
-use Rattle.ink.proofs.ink_percentage.Reads as reads
-use Rattle.ink.proofs.ink_percentage.Lts as lts
 
--- the table, as the code holds it where it reads an entry
-abbrev table : tie.Start → List ℕ
-table c = lts.m6 reads.Pre reads.Post (c .args) (c .blocks) .1 .1 .0
+sub-rounded : tie.Need-sub-rounded
+sub-rounded c = search needs
 
-array-read-result : tie.Need-array-read-result
-array-read-result c = search needs
+mul-rounded : tie.Need-mul-rounded
+mul-rounded c = search needs
+
+rounded-requires : tie.Need-rounded-requires
+rounded-requires c κs = search needs
+
+cast-result : tie.Need-cast-result
+unfolding inkOf
+cast-result c = search (needs, ink-most (c .before .args .grey))
 
 returns : tie.Need-returns
-unfolding every right
-returns c = percentages (table c) tt (c .args .grey) (search needs)
+unfolding inkOf
+returns c = rw (c .rounded .ensures) (percentage (c .before .args .grey))
 
 pub ink-percentage-spec : {M : Type 1} → statement M
-ink-percentage-spec = tie.close (tie.spec array-read-result returns)
+ink-percentage-spec =
+    tie.close (tie.spec sub-rounded mul-rounded rounded-requires cast-result returns)
