@@ -311,6 +311,24 @@ fn runs_at_one_time() {
 
 extern "C" {
     fn kill(process: c_int, number: c_int) -> c_int;
+    fn signal(number: c_int, action: usize) -> usize;
+}
+
+/// HUP, INT and TERM.
+const INTERRUPTS: [c_int; 3] = [1, 2, 15];
+
+/// The command with no interrupt ignored, however the tests were started.
+fn interruptible(mut command: Command) -> Command {
+    let by_default = || {
+        for number in INTERRUPTS {
+            // SAFETY: no memory is passed
+            unsafe { signal(number, 0) };
+        }
+        Ok(())
+    };
+    // SAFETY: between fork and exec only `signal` is called, which may be
+    unsafe { command.pre_exec(by_default) };
+    command
 }
 
 /// Sends a signal to a run that synchronises slowly, once its temporary file is there, and gives its end.
@@ -334,8 +352,8 @@ fn interrupts() {
     let case = Case::new("interrupts");
     let output = case.old("out.pgm", 0o644);
     let names = ["in.pgm", "out.pgm", "telling.c", "telling.so"];
-    for number in [1, 2, 15] {
-        let status = interrupt(&case, case.open(&output), number);
+    for number in INTERRUPTS {
+        let status = interrupt(&case, interruptible(case.open(&output)), number);
         assert_eq!(status.signal(), Some(number));
         assert_eq!(fs::read(&output).expect("OUT"), b"as it was");
         assert_eq!(case.folder.names(), names);
