@@ -1,2 +1,2 @@
--- The law of rounding over any divisor.
+-- The law of rounding over any divisor, and the ink percentage by it.
 pub mod Rounding

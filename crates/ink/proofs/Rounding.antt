@@ -1,5 +1,5 @@
 -- Rounding to the nearest whole number, halves up, over any divisor: what it is (rounded-halves), a bound of it (rounded-most), and that no tie
--- occurs over an odd divisor (rounded-near). Then the ink percentage, as an instance (percentage).
+-- occurs over an odd divisor (rounded-near). Then the ink percentage, as an instance (percentage, ink-most).
 use mathlib.Core.Path.{_≡_, refl}
 use Prim.Native.Nat.{ℕ, suc, _+_, _-_, _*_, _/_, _%_, _≤_, _<_}
 use native.Mathlib.Nat.{div-lt-iff-lt-mul, div-mul-le-self, lt-div-mul-add, mul-comm, suc-mul}
