@@ -1,14 +1,14 @@
--- Demand 2's words for cleaning, as one claim about `area_open` and `area_close`: it starts from their contracts and asks nothing else.
+-- Demand 2's words for cleaning, as one claim about `clean`: it starts from its contract and asks nothing else.
 -- k: connectivity, w: width, h: height, f: the plate; out, work: the buffers as they were lent, out′, work′: as they are left; r: what was returned.
 use mathlib.Core.Path.{_≡_}
-use mathlib.Core.Logic.{_↔_}
+use mathlib.Core.Logic.{_↔_, _⊎_}
 use mathlib.Core.List.{List}
-use Prim.Native.Nat.{ℕ, _-_, _≤_, _<_}
-use lib.ListN.{length}
+use Prim.Native.Nat.{ℕ, _-_, _*_, _≤_, _<_}
+use lib.ListN.{length, take}
 use Rattle.meaning.specs.Sets.{nth}
 use Rattle.meaning.specs.Plate.{grey, greatestGrey, negative, touch}
-use Rattle.meaning.specs.Opening.{Region}
-use Rattle.plate_filter.specs.Operations.{Closed, Opened}
+use Rattle.meaning.specs.Opening.{Region, darkSide, lightSide}
+use Rattle.plate_filter.specs.Operations.{Cleaned}
 
 -- each pixel p holds the greatest t for which a connected set of at least the limit's pixels contains p and has no grey below t
 abbrev pub HoldsOpened : (k w limit : ℕ) (f out : List ℕ) → Type 0
@@ -18,9 +18,23 @@ HoldsOpened k w limit f out = (t p : ℕ) → p < length f → Region (length f)
 abbrev pub HoldsClosed : (k w limit : ℕ) (f out : List ℕ) → Type 0
 HoldsClosed k w limit f out = (t p : ℕ) → p < length f → Region (length f) (touch k w) (grey (negative f)) limit t p ↔ t ≤ greatestGrey - nth out p
 
--- what is not refused is cleaned
+-- the one on the light side, the other on the dark side, and there is no third
+abbrev pub HoldsCleaned : (side k w limit : ℕ) (f out : List ℕ) → Type 0
+HoldsCleaned side k w limit f out = ((side ≡ lightSide) × HoldsOpened k w limit f out) ⊎ ((side ≡ darkSide) × HoldsClosed k w limit f out)
+
+-- two plates are negatives of each other
+abbrev pub Negatives : (f g : List ℕ) → Type 0
+Negatives f g = (g ≡ negative f) × (f ≡ negative g)
+
 pub record CleaningClaim : Type 0 where
-  pub opening : (k w h limit : ℕ) (f out out′ work work′ : List ℕ) (r : ℕ) → Opened k w h limit f out out′ work work′ r → r ≡ 0
-      → HoldsOpened k w limit f out′
-  pub closing : (k w h limit : ℕ) (f out out′ work work′ : List ℕ) (r : ℕ) → Closed k w h limit f out out′ work work′ r → r ≡ 0
-      → HoldsClosed k w limit f out′
+  -- what is not refused is cleaned
+  pub cleaning : (side k w h limit : ℕ) (f out out′ work work′ : List ℕ) (r : ℕ) → Cleaned side k w h limit f out out′ work work′ r → r ≡ 0
+      → HoldsCleaned side k w limit f out′
+  -- at one limit and connectivity, light on a plate and dark on its negative are refused alike, in buffers of the same lengths ..
+  pub refused-alike : (k w h limit : ℕ) (f out out′ work work′ lent lent′ space space′ : List ℕ) (r r′ : ℕ)
+      → Cleaned lightSide k w h limit f out out′ work work′ r → Cleaned darkSide k w h limit (negative f) lent lent′ space space′ r′
+      → length lent ≡ length out → length space ≡ length work → r′ ≡ r
+  -- .. and give plates that are negatives of each other
+  pub negatives : (k w h limit : ℕ) (f out out′ work work′ lent lent′ space space′ : List ℕ) (r r′ : ℕ)
+      → Cleaned lightSide k w h limit f out out′ work work′ r → Cleaned darkSide k w h limit (negative f) lent lent′ space space′ r′
+      → r ≡ 0 → r′ ≡ 0 → Negatives (take (w * h) out′) (take (w * h) lent′)

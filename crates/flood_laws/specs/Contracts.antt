@@ -7,7 +7,7 @@ use mathlib.Core.List.{List}
 use Prim.Native.Nat.{ℕ, suc, _+_, _*_, _/_, _%_, _≤_, _<_}
 use lib.Dec.{T, ltb, eqb}
 use Rattle.meaning.specs.Sets.{pick, area, sum}
-use Rattle.meaning.specs.Plate.{touch, connectivityFits, greatestGrey, maxPixels, maxSide}
+use Rattle.meaning.specs.Plate.{touch, connectivityFits, greatestGrey, maxPixels, maxExtent}
 use Rattle.work_columns.specs.Columns.{col, Room, Frame, Put, Stored}
 use Rattle.work_columns.specs.Layout.{GREY, OWN, STACK, FLOODAREA, FLOODPARENT, FloodedColumns}
 use Rattle.flood_directions.specs.Directions.{Beside}
@@ -55,8 +55,8 @@ stack wd n w i = pixelOf wd n (col STACK n w i)
 pub record Sizes (k wd ht n : ℕ) : Type 0 where
   pub kind : connectivityFits k ≡ true
   pub width : 0 < wd
-  pub wide : wd ≤ maxSide
-  pub tall : ht ≤ maxSide
+  pub wide : wd ≤ maxExtent
+  pub tall : ht ≤ maxExtent
   pub pixels : n ≡ ht * wd
 
 -- u: the lightest open level plus one; c: the current pixel, n where there is none

@@ -3,7 +3,7 @@
 ghost use mathlib.Core.Path.{_≡_};
 ghost use lib.ListN.{length};
 ghost use Rattle.meaning.specs.Answers.{outAfter};
-ghost use Rattle.plate_filter.specs.Operations.{Opened, Closed, MaximaMarked, NodesListed, columns};
+ghost use Rattle.plate_filter.specs.Operations.{Cleaned, MaximaMarked, NodesListed, columns};
 ghost use Rattle.record_parse.specs.Parse.{readOf};
 ghost use Rattle.record.specs.Writing.{WrittenRecord};
 ghost use Rattle.record.specs.Reading.{ReadRecord, CutRecord, ListedSizes};
@@ -19,9 +19,10 @@ use record::SizeHead;
 use record::Written;
 use record_write_cut_list::CutListed;
 
-// The area opening of a plate at a limit.
+// Cleans a plate at a limit on its light side or its dark side.
 #[no_mangle]
-pub extern "C" fn livukoe_area_open(
+pub extern "C" fn livukoe_clean(
+    side: u32,
     image: &[u8],
     width: u32,
     height: u32,
@@ -30,27 +31,10 @@ pub extern "C" fn livukoe_area_open(
     out: &mut [u8],
     work: &mut [u32],
 ) -> u32
-    ensures { λ r. ⌜ Opened connectivity width height limit (now (image .entry))
+    ensures { λ r. ⌜ Cleaned side connectivity width height limit (now (image .entry))
         (now (out .entry)) (now (out .exit)) (now (work .entry)) (now (work .exit)) r ⌝ }
 {
-    plate_filter::area_open(image, width, height, connectivity, limit, out, work)
-}
-
-// The area closing of a plate at a limit.
-#[no_mangle]
-pub extern "C" fn livukoe_area_close(
-    image: &[u8],
-    width: u32,
-    height: u32,
-    connectivity: u32,
-    limit: u32,
-    out: &mut [u8],
-    work: &mut [u32],
-) -> u32
-    ensures { λ r. ⌜ Closed connectivity width height limit (now (image .entry))
-        (now (out .entry)) (now (out .exit)) (now (work .entry)) (now (work .exit)) r ⌝ }
-{
-    plate_filter::area_close(image, width, height, connectivity, limit, out, work)
+    plate_filter::clean(side, image, width, height, connectivity, limit, out, work)
 }
 
 // Marks the regional maxima of a plate: 1 inside one, 0 elsewhere.

@@ -6,14 +6,14 @@ use Prim.Native.Nat.{ℕ, zero, suc, _-_, _*_}
 use native.Mathlib.Omega.{arith}
 use lib.Dec.{ltb}
 use Rattle.meaning.specs.Sets.{area, table}
-use Rattle.meaning.specs.Plate.{greatestGrey, apart}
-use Rattle.meaning.specs.Opening.{opened, atLeast, attribute}
+use Rattle.meaning.specs.Plate.{greatestGrey, negative, apart}
+use Rattle.meaning.specs.Opening.{opened, cleaned, lightSide, darkSide, atLeast, attribute}
 use Rattle.meaning.specs.Maxima.{marks}
 use Rattle.meaning.specs.Nodes.{nodesOf}
 use Rattle.meaning.specs.Cut.{cut, counts, losses, total, darkest}
 use Rattle.meaning.specs.Record.{recordOf, encode}
 use Rattle.meaning.specs.Ink.{rounded, inkOf}
-use Rattle.meaning.specs.Answers.{cleanRefusal, maximaRefusal, treeRefusal}
+use Rattle.meaning.specs.Answers.{cleanRefusal, filterRefusal, maximaRefusal, treeRefusal}
 use Rattle.meaning.specs.Examples.{small, run, workedCases, Case, edges, steps, places}
 
 -- every worked case of SPECIFICATION 10
@@ -95,10 +95,22 @@ pub ink-rest : inkOf 10 ∷ inkOf 7 ∷ [] ≡ 96 ∷ 97 ∷ []
 unfolding inkOf
 ink-rest = refl
 
--- limits 0 and 13 give 4; each other condition of cleaning, with all later ones met too; nothing refused
-pub refusals : cleanRefusal 4 4 3 0 12 12 96 ∷ cleanRefusal 4 4 3 13 12 12 96 ∷ cleanRefusal 5 0 3 0 11 0 0 ∷ cleanRefusal 8 0 3 0 11 0 0 ∷ cleanRefusal 8 4 3 0 11 0 0
-    ∷ cleanRefusal 8 4 3 12 12 11 95 ∷ cleanRefusal 8 4 3 12 12 12 95 ∷ cleanRefusal 8 4 3 12 12 12 96 ∷ maximaRefusal 4 4 3 12 11 0 ∷ treeRefusal 4 4 3 12 4 3 95
-    ∷ treeRefusal 4 4 3 12 4 3 96 ∷ []
+-- limits 0 and 13 give 4; each other condition, with all later ones met too; nothing refused
+pub refusals : filterRefusal 4 4 3 0 12 12 96 ∷ filterRefusal 4 4 3 13 12 12 96 ∷ filterRefusal 5 0 3 0 11 0 0 ∷ filterRefusal 8 0 3 0 11 0 0
+    ∷ filterRefusal 8 4 3 0 11 0 0 ∷ filterRefusal 8 4 3 12 12 11 95 ∷ filterRefusal 8 4 3 12 12 12 95 ∷ filterRefusal 8 4 3 12 12 12 96
+    ∷ maximaRefusal 4 4 3 12 11 0 ∷ treeRefusal 4 4 3 12 4 3 95 ∷ treeRefusal 4 4 3 12 4 3 96 ∷ []
     ≡ 4 ∷ 4 ∷ 1 ∷ 2 ∷ 3 ∷ 5 ∷ 6 ∷ 0 ∷ 5 ∷ 6 ∷ 5 ∷ []
-unfolding cleanRefusal maximaRefusal treeRefusal
+unfolding filterRefusal maximaRefusal treeRefusal
 refusals = refl
+
+-- sides 0 and 3 give 26, with all later conditions met too or none; sides 1 and 2 leave it to the later ones
+pub side-refusals : cleanRefusal 0 5 0 3 0 11 0 0 ∷ cleanRefusal 3 5 0 3 0 11 0 0 ∷ cleanRefusal 0 4 4 3 12 12 12 96 ∷ cleanRefusal 3 4 4 3 12 12 12 96
+    ∷ cleanRefusal 1 5 0 3 0 11 0 0 ∷ cleanRefusal 2 5 0 3 0 11 0 0 ∷ cleanRefusal 1 4 4 3 12 12 12 96 ∷ cleanRefusal 2 4 4 3 12 12 12 96 ∷ []
+    ≡ 26 ∷ 26 ∷ 26 ∷ 26 ∷ 1 ∷ 1 ∷ 0 ∷ 0 ∷ []
+unfolding cleanRefusal
+side-refusals = refl
+
+-- the dark side on the negative gives the negative of the light side
+pub light-and-dark : cleaned darkSide 4 4 2 (negative small) ≡ negative (cleaned lightSide 4 4 2 small)
+unfolding cleaned negative
+light-and-dark = refl

@@ -6,6 +6,7 @@ use Prim.Native.Nat.{ℕ, _*_}
 use lib.Dec.{eqb, leb, ltb}
 use lib.ListN.{length, drop, replicate}
 use Rattle.meaning.specs.Sets.{pick}
+use Rattle.meaning.specs.Opening.{sideFits}
 use Rattle.meaning.specs.Plate.{gridFits, connectivityFits}
 
 -- the number where the condition is met, else what the later conditions give
@@ -26,6 +27,10 @@ workAfter began pixels work = pick began (replicate (8 * pixels) 0 ++ drop (8 * 
 
 -- ---- the conditions that several operations share. k: connectivity, w: width, h: height; the others are lengths
 
+-- 26 side neither light nor dark
+abbrev pub sideRefusal : ℕ → ℕ → ℕ
+sideRefusal side later = refuse (not (sideFits side)) 26 later
+
 -- 1 connectivity not 4 or 8; 2 width or height or pixels beyond the grid; 3 plate length not the pixels
 abbrev pub plateRefusal : ℕ → ℕ → ℕ → ℕ → ℕ → ℕ
 plateRefusal k w h plate later =
@@ -45,11 +50,16 @@ outRefusal needed out later = refuse (ltb out needed) 5 later
 
 -- ---- operation by operation
 
--- opening, closing: 1, 2, 3, 4, 5, 6
-unfoldable pub cleanRefusal : ℕ → ℕ → ℕ → ℕ → ℕ → ℕ → ℕ → ℕ
+-- a plate, a limit and an output of as many pixels: 1, 2, 3, 4, 5, 6
+unfoldable pub filterRefusal : ℕ → ℕ → ℕ → ℕ → ℕ → ℕ → ℕ → ℕ
 unfolding connectivityFits gridFits
-cleanRefusal k w h limit plate out work =
+filterRefusal k w h limit plate out work =
     plateRefusal k w h plate (limitRefusal w h limit (outRefusal (w * h) out (workRefusal w h work 0)))
+
+-- cleaning: 26, then the same
+unfoldable pub cleanRefusal : ℕ → ℕ → ℕ → ℕ → ℕ → ℕ → ℕ → ℕ → ℕ
+unfolding sideFits filterRefusal
+cleanRefusal side k w h limit plate out work = sideRefusal side (filterRefusal k w h limit plate out work)
 
 -- marking maxima: 1, 2, 3, 5, 6
 unfoldable pub maximaRefusal : ℕ → ℕ → ℕ → ℕ → ℕ → ℕ → ℕ

@@ -1,17 +1,16 @@
 -- SPECIFICATION 10's small plate and its worked cases, as a table.
 use mathlib.Core.List.{List, [], _∷_}
 use Prim.Native.Nat.{ℕ}
-use Rattle.meaning.specs.Opening.{opened, closed}
+use Rattle.meaning.specs.Opening.{cleaned, lightSide, darkSide}
 use Rattle.meaning.specs.Ink.{inkOf}
 
 -- rows 10 10 10 10 / 10 50 30 10 / 10 10 10 90
 abbrev pub small : List ℕ
 small = 10 ∷ 10 ∷ 10 ∷ 10 ∷ 10 ∷ 50 ∷ 30 ∷ 10 ∷ 10 ∷ 10 ∷ 10 ∷ 90 ∷ []
 
--- what is asked: the opening or the closing of the small plate with a connectivity and a limit, or the ink of a grey
+-- what is asked: the small plate cleaned on a side with a connectivity and a limit, or the ink of a grey
 pub data Job : Type 0 where
-  opening : ℕ → ℕ → Job
-  closing : ℕ → ℕ → Job
+  cleaning : ℕ → ℕ → ℕ → Job
   ink : ℕ → Job
 
 pub record Case : Type 0 where
@@ -19,9 +18,8 @@ pub record Case : Type 0 where
   pub answer : List ℕ
 
 unfoldable pub run : Job → List ℕ
-unfolding opened closed inkOf
-run (opening k limit) = opened k 4 limit small
-run (closing k limit) = closed k 4 limit small
+unfolding cleaned inkOf
+run (cleaning side k limit) = cleaned side k 4 limit small
 run (ink g) = inkOf g ∷ []
 
 abbrev case : Job → List ℕ → Case
@@ -43,15 +41,15 @@ raised = 30 ∷ 30 ∷ 30 ∷ 30 ∷ 30 ∷ 50 ∷ 30 ∷ 30 ∷ 30 ∷ 30 ∷ 3
 -- the eleven worked cases of SPECIFICATION 10
 abbrev pub workedCases : List Case
 workedCases =
-    case (opening 4 1) small
-    ∷ case (opening 4 2) pair
-    ∷ case (opening 4 3) flat
-    ∷ case (opening 4 12) flat
-    ∷ case (opening 8 2) three
-    ∷ case (opening 8 3) three
-    ∷ case (opening 8 4) flat
-    ∷ case (closing 4 9) small
-    ∷ case (closing 4 10) raised
+    case (cleaning lightSide 4 1) small
+    ∷ case (cleaning lightSide 4 2) pair
+    ∷ case (cleaning lightSide 4 3) flat
+    ∷ case (cleaning lightSide 4 12) flat
+    ∷ case (cleaning lightSide 8 2) three
+    ∷ case (cleaning lightSide 8 3) three
+    ∷ case (cleaning lightSide 8 4) flat
+    ∷ case (cleaning darkSide 4 9) small
+    ∷ case (cleaning darkSide 4 10) raised
     ∷ case (ink 0) (100 ∷ [])
     ∷ case (ink 255) (0 ∷ [])
     ∷ []

@@ -1,11 +1,11 @@
 -- Patches, and the opening of a plate. An opening goes by a criterion, a test that says which sets of pixels qualify; the area opening's is
 -- "at least the limit's pixels". The theory holds for every increasing criterion (attribute openings).
-use mathlib.Core.Bool.{Bool, true}
+use mathlib.Core.Bool.{Bool, true, _||_}
 use mathlib.Core.List.{List}
 use Prim.Native.Nat.{ℕ, _≤_, _<_}
-use lib.Dec.{T, leb}
+use lib.Dec.{T, eqb, leb}
 use lib.ListN.{length}
-use Rattle.meaning.specs.Sets.{Within, area, greatest, table, has, elem, Distinct}
+use Rattle.meaning.specs.Sets.{Within, area, greatest, pick, table, has, elem, Distinct}
 use Rattle.meaning.specs.Paths.{Joined}
 use Rattle.meaning.specs.Component.{component}
 use Rattle.meaning.specs.Plate.{touch, grey, negative}
@@ -56,6 +56,23 @@ opened k w limit f = table (length f) (openedAt (length f) (touch k w) (atLeast 
 unfoldable pub closed : ℕ → ℕ → ℕ → List ℕ → List ℕ
 unfolding opened negative
 closed k w limit f = negative (opened k w limit (negative f))
+
+-- ---- cleaning a plate on a side
+
+-- the side is 1, light patches, or 2, dark patches
+abbrev pub lightSide : ℕ
+lightSide = 1
+
+abbrev pub darkSide : ℕ
+darkSide = 2
+
+unfoldable pub sideFits : ℕ → Bool
+sideFits side = eqb side lightSide || eqb side darkSide
+
+-- a plate cleaned on a side: closed on the dark one, opened on the light one
+unfoldable pub cleaned : ℕ → ℕ → ℕ → ℕ → List ℕ → List ℕ
+unfolding opened closed
+cleaned side k w limit f = pick (eqb side darkSide) (closed k w limit f) (opened k w limit f)
 
 -- ---- the specification's words
 

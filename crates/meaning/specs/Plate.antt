@@ -12,16 +12,16 @@ use Rattle.meaning.specs.Sets.{pick}
 abbrev pub greatestGrey : ℕ
 greatestGrey = 255
 
--- the longest side, and the most pixels, of the grid
-abbrev pub maxSide : ℕ
-maxSide = 32768
+-- the greatest width or height, and the most pixels, of the grid
+abbrev pub maxExtent : ℕ
+maxExtent = 32768
 
 abbrev pub maxPixels : ℕ
 maxPixels = 16777216
 
 -- width and height are each 1 to 32,768, and their product, the pixels, is at most 16,777,216
 unfoldable pub gridFits : ℕ → ℕ → Bool
-gridFits w h = (leb 1 w && leb w maxSide) && ((leb 1 h && leb h maxSide) && leb (w * h) maxPixels)
+gridFits w h = (leb 1 w && leb w maxExtent) && ((leb 1 h && leb h maxExtent) && leb (w * h) maxPixels)
 
 -- connectivity is 4 or 8
 unfoldable pub connectivityFits : ℕ → Bool

@@ -1,6 +1,6 @@
 -- From the columns of the work space to the definitions: the values of the nodes are the opening's greys, or the marks of the maxima; the columns are
 -- those of the node list.
-use mathlib.Core.Path.{_≡_, sym, ap, _∙_}
+use mathlib.Core.Path.{_≡_, refl, sym, ap, _∙_}
 use mathlib.Core.Bool.{Bool, true, false, not, _&&_}
 use mathlib.Core.List.{List}
 use Prim.Native.Nat.{ℕ, _-_, _≤_, _<_}
@@ -12,10 +12,10 @@ use borrow.Author.Tests.{ne-eqb}
 use Rattle.meaning.specs.Component.{same}
 use Rattle.meaning.specs.Maxima.{marks, maximum}
 use Rattle.meaning.specs.Nodes.{anchors, areaOf, holds, own, parent}
-use Rattle.meaning.specs.Opening.{Criterion, atLeast, attribute, opened, openedAt}
+use Rattle.meaning.specs.Opening.{Criterion, atLeast, attribute, cleaned, closed, darkSide, opened, openedAt}
 use Rattle.meaning.specs.Paths.{here}
 use Rattle.meaning.specs.Plate.{Plate, greatestGrey, touch}
-use Rattle.meaning.specs.Sets.{area, bit, nth, table}
+use Rattle.meaning.specs.Sets.{area, bit, nth, pick, table}
 use Rattle.theory_lists.proofs.Lists.{getD-table, length-table, table-same}
 use Rattle.theory_lists.proofs.Sets.{greatest-le, some-elim, some-intro}
 use Rattle.theory_lists.proofs.Tests.{both, both-left, both-right, same-test}
@@ -34,7 +34,7 @@ use Rattle.plate_greys.proofs.Sides.{side-plate-grey, side-plate-length}
 use Rattle.maxtree_values.specs.Values.{Cut, Delivered, Marked, Parents, Valued, Writable, hasChild, outValue}
 use Rattle.maxtree_values.proofs.Values.{cut-value-no, cut-value-yes}
 use Rattle.plate_tree.proofs.Nodes.{cleared-space, listed-count, nodes-same}
-use Rattle.plate_filter.specs.Operations.{PlateAnswered, cleaned, column}
+use Rattle.plate_filter.specs.Operations.{PlateAnswered, column}
 
 -- a plate or its negative, from its values
 pub side-plate-table : (negated : Bool) (n : ℕ) (g : ℕ → ℕ) → sidePlate negated (table n g) ≡ table n (λ (p : ℕ). sideGrey negated (g p))
@@ -45,6 +45,13 @@ side-plate-table negated n g =
     (λ p l.
     let m : p < n = rw len at l in
     side-plate-grey negated (table n g) p (rw (length-table n g) m) ∙ rw (getD-table n g p 0 m) (sym (getD-table n g′ p 0 m)))
+
+-- closing is opening on the negative
+side-opened : (negated : Bool) (k w limit : ℕ) (f : List ℕ)
+    → sidePlate negated (opened k w limit (sidePlate negated f)) ≡ pick negated (closed k w limit f) (opened k w limit f)
+unfolding closed
+side-opened true k w limit f = refl
+side-opened false k w limit f = refl
 
 -- ---- the tree of the plate f, or of its negative, in the work space w
 
@@ -142,10 +149,15 @@ module _ {negated : Bool} {k wd ht : ℕ} {f v w : List ℕ} {count : ℕ} (p : 
     unfolding opened
     opened-side = rw (side-plate-length negated f, p .same)
 
-    pub cut-answer : table n (outValue negated n w′) ≡ cleaned negated k wd limit f
-    cut-answer =
+    cut-side : table n (outValue negated n w′) ≡ sidePlate negated (opened k wd limit (sidePlate negated f))
+    cut-side =
         table-same n (outValue negated n w′) (λ (q : ℕ). sideGrey negated (openedAt n near keep g q)) (λ q l. ap (sideGrey negated) (cut-opens q l))
         ∙ sym (side-plate-table negated n (openedAt n near keep g)) ∙ ap (sidePlate negated) (sym opened-side)
+
+    -- the plate cleaned on a side
+    pub cut-answer : (side : ℕ) → negated ≡ eqb side darkSide → table n (outValue negated n w′) ≡ cleaned side k wd limit f
+    unfolding cleaned
+    cut-answer side e = cut-side ∙ side-opened negated k wd limit f ∙ ap (λ (b : Bool). pick b (closed k wd limit f) (opened k wd limit f)) e
 
 -- ---- the nodes without a child are the regional maxima
 

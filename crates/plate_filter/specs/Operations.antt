@@ -9,12 +9,11 @@ use lib.ListN.{length}
 use Rattle.meaning.specs.Answers.{cleanRefusal, maximaRefusal, outAfter, over, workAfter}
 use Rattle.meaning.specs.Maxima.{marks}
 use Rattle.meaning.specs.Nodes.{areaOf, levelOf, nodesOf, parent}
-use Rattle.meaning.specs.Opening.{closed, opened}
+use Rattle.meaning.specs.Opening.{cleaned}
 use Rattle.meaning.specs.Plate.{Plate, grey, touch}
 use Rattle.meaning.specs.Sets.{nth, table}
 use Rattle.work_columns.specs.Columns.{Room, col}
 use Rattle.work_columns.specs.Layout.{ANCHOR, AREA, LEVEL, PARENT}
-use Rattle.plate_greys.specs.Sides.{sidePlate}
 use Rattle.plate_tree.specs.Listing.{ListAnswered}
 
 -- ---- operations with one output, a number for each pixel, all of whose refusals precede any work
@@ -26,26 +25,15 @@ pub record PlateAnswered (k w h : ℕ) (f : List ℕ) (refusal : ℕ) (answer ou
   pub space : work′ ≡ workAfter (eqb r 0) (w * h) work
   pub accepted : r ≡ 0 → Plate k w h f
 
-module _ (k w h : ℕ) where
-  -- cleaning at a limit, with an answer: that of opening or that of closing
-  abbrev pub Cleaned : (limit : ℕ) (f answer out out′ work work′ : List ℕ) (r : ℕ) → Type 0
-  Cleaned limit f answer out out′ work work′ r =
-      PlateAnswered k w h f (cleanRefusal k w h limit (length f) (length out) (length work)) answer out out′ work work′ r
+-- cleaning on a side at a limit
+abbrev pub Cleaned : (side k w h limit : ℕ) (f out out′ work work′ : List ℕ) (r : ℕ) → Type 0
+Cleaned side k w h limit f out out′ work work′ r =
+    PlateAnswered k w h f (cleanRefusal side k w h limit (length f) (length out) (length work)) (cleaned side k w limit f) out out′ work work′ r
 
-  abbrev pub Opened : (limit : ℕ) (f out out′ work work′ : List ℕ) (r : ℕ) → Type 0
-  Opened limit f out out′ work work′ r = Cleaned limit f (opened k w limit f) out out′ work work′ r
-
-  abbrev pub Closed : (limit : ℕ) (f out out′ work work′ : List ℕ) (r : ℕ) → Type 0
-  Closed limit f out out′ work work′ r = Cleaned limit f (closed k w limit f) out out′ work work′ r
-
-  -- marking the regional maxima
-  abbrev pub MaximaMarked : (f out out′ work work′ : List ℕ) (r : ℕ) → Type 0
-  MaximaMarked f out out′ work work′ r =
-      PlateAnswered k w h f (maximaRefusal k w h (length f) (length out) (length work)) (marks k w f) out out′ work work′ r
-
--- the answer of opening, or of closing as opening on the negative
-abbrev pub cleaned : Bool → ℕ → ℕ → ℕ → List ℕ → List ℕ
-cleaned negated k w limit f = sidePlate negated (opened k w limit (sidePlate negated f))
+-- marking the regional maxima
+abbrev pub MaximaMarked : (k w h : ℕ) (f out out′ work work′ : List ℕ) (r : ℕ) → Type 0
+MaximaMarked k w h f out out′ work work′ r =
+    PlateAnswered k w h f (maximaRefusal k w h (length f) (length out) (length work)) (marks k w f) out out′ work work′ r
 
 -- ---- the node list: one output for each column
 

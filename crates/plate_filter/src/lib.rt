@@ -1,29 +1,31 @@
-// Area opening and closing, regional maxima, and the node list of a plate: operations that callers use, and that require nothing.
+// Cleaning, regional maxima, and the node list of a plate: operations that callers use, and that require nothing.
 ghost use mathlib.Core.Path.{_≡_};
 ghost use Prim.Native.Nat.{min};
-ghost use Rattle.plate_filter.specs.Operations.{Cleaned, Opened, Closed, MaximaMarked, NodesListed, cleaned, columns, shortest, Lent, ColumnsWritten};
+ghost use Rattle.plate_filter.specs.Operations.{Cleaned, MaximaMarked, NodesListed, columns, shortest, Lent, ColumnsWritten};
+use plate_refusals::DARK;
 use plate_tree::NodeList;
 use work_columns::ANCHOR;
 use work_columns::AREA;
 use work_columns::LEVEL;
 use work_columns::PARENT;
 
-// Opens a plate, or closes it: opens its negative.
-fn clean(
+// Cleans a plate at a limit on its light side or its dark side.
+pub fn clean(
+    side: u32,
     image: &[u8],
     width: u32,
     height: u32,
     connectivity: u32,
     limit: u32,
-    negated: bool,
     out: &mut [u8],
     work: &mut [u32],
 ) -> u32
-    ensures { λ r. ⌜ Cleaned connectivity width height limit (now (image .entry)) (cleaned negated connectivity width limit (now (image .entry)))
+    ensures { λ r. ⌜ Cleaned side connectivity width height limit (now (image .entry))
         (now (out .entry)) (now (out .exit)) (now (work .entry)) (now (work .exit)) r ⌝ }
 {
     let n = image.len();
     let refusal = plate_refusals::clean_refusal(
+        side,
         connectivity,
         width,
         height,
@@ -35,42 +37,11 @@ fn clean(
     if refusal != 0 {
         return refusal;
     }
+    let negated = side == DARK;
     let count = plate_tree::plate_tree(image, negated, width, height, connectivity, work);
     maxtree_values::cut_values(work, n, count, limit as usize);
     maxtree_values::deliver(work, n, negated, out);
     0
-}
-
-// The area opening of a plate at a limit.
-pub fn area_open(
-    image: &[u8],
-    width: u32,
-    height: u32,
-    connectivity: u32,
-    limit: u32,
-    out: &mut [u8],
-    work: &mut [u32],
-) -> u32
-    ensures { λ r. ⌜ Opened connectivity width height limit (now (image .entry))
-        (now (out .entry)) (now (out .exit)) (now (work .entry)) (now (work .exit)) r ⌝ }
-{
-    clean(image, width, height, connectivity, limit, false, out, work)
-}
-
-// The area closing of a plate at a limit.
-pub fn area_close(
-    image: &[u8],
-    width: u32,
-    height: u32,
-    connectivity: u32,
-    limit: u32,
-    out: &mut [u8],
-    work: &mut [u32],
-) -> u32
-    ensures { λ r. ⌜ Closed connectivity width height limit (now (image .entry))
-        (now (out .entry)) (now (out .exit)) (now (work .entry)) (now (work .exit)) r ⌝ }
-{
-    clean(image, width, height, connectivity, limit, true, out, work)
 }
 
 // Marks the regional maxima of a plate: 1 inside one, 0 elsewhere.

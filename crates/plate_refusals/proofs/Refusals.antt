@@ -1,14 +1,16 @@
 -- The chain of the conditions of an operation: what sizes say that are not refused, and which condition decides.
 use mathlib.Core.Path.{_≡_, refl, sym, _∙_}
 use mathlib.Core.Bool.{Bool, true, false, not, _&&_}
+use mathlib.Core.Logic.{_⊎_, inl, inr}
 use Prim.Native.Nat.{ℕ, _*_, _≤_, _<_}
 use native.Mathlib.Omega.{arith}
-use lib.Dec.{T, leb, ltb, eqb, leb→le}
+use lib.Dec.{T, leb, ltb, eqb, leb→le, eqb→eq}
 use borrow.Author.Tests.{eqb-true, eq-eqb, not-false, ltb-false, le-ltb}
-use Rattle.meaning.specs.Answers.{cleanRefusal, limitRefusal, maximaRefusal, outRefusal, plateRefusal, refuse, treeRefusal, workRefusal}
+use Rattle.meaning.specs.Answers.{cleanRefusal, filterRefusal, limitRefusal, maximaRefusal, outRefusal, plateRefusal, refuse, treeRefusal, workRefusal}
+use Rattle.meaning.specs.Opening.{darkSide, lightSide, sideFits}
 use Rattle.meaning.specs.Plate.{connectivityFits, gridFits, maxPixels}
 use Rattle.theory_connectivity.proofs.Sizes.{grid-sizes}
-use Rattle.theory_lists.proofs.Tests.{passes, tests}
+use Rattle.theory_lists.proofs.Tests.{either-cases, passes, tests}
 
 -- a condition that is not met, with none of the later ones
 pub refuse-none : (met : Bool) (number later : ℕ) → 0 < number → refuse met number later ≡ 0 → (met ≡ false) × (later ≡ 0)
@@ -70,19 +72,19 @@ module _ (k w h plate : ℕ) where
 pub taken-few : {k w h plate : ℕ} → Taken k w h plate → plate ≤ maxPixels
 taken-few {k} {w} {h} t = omega (arith, t .long, grid-sizes w h (t .grid) .few-pixels)
 
--- ---- opening and closing
+-- ---- a plate, a limit and an output of as many pixels
 
 -- the sizes that are not refused
-pub record Cleanable (k w h limit plate out work : ℕ) : Type 0 where
+pub record Filterable (k w h limit plate out work : ℕ) : Type 0 where
   pub taken : Taken k w h plate
   pub limit-low : 1 ≤ limit
   pub limit-high : limit ≤ w * h
   pub room : w * h ≤ out
   pub space : 8 * (w * h) ≤ work
 
-pub clean-none : (k w h limit plate out work : ℕ) → cleanRefusal k w h limit plate out work ≡ 0 → Cleanable k w h limit plate out work
-unfolding cleanRefusal
-clean-none k w h limit plate out work e =
+pub filter-none : (k w h limit plate out work : ℕ) → filterRefusal k w h limit plate out work ≡ 0 → Filterable k w h limit plate out work
+unfolding filterRefusal
+filter-none k w h limit plate out work e =
     let later₆ : ℕ = workRefusal w h work 0 in
     let later₅ : ℕ = outRefusal (w * h) out later₆ in
     let later₄ : ℕ = limitRefusal w h limit later₅ in
@@ -101,11 +103,32 @@ clean-none k w h limit plate out work e =
     }
 
 -- the conditions after 3, on a plate that is taken; its length is the pixels
-pub clean-later : {k w h plate : ℕ} (limit out work : ℕ) → Taken k w h plate
-    → cleanRefusal k w h limit plate out work ≡ refuse (not (leb 1 limit && leb limit plate)) 4 (outRefusal plate out (refuse (ltb work (8 * plate)) 6 0))
-unfolding cleanRefusal
-clean-later {k} {w} {h} {plate} limit out work t =
+pub filter-later : {k w h plate : ℕ} (limit out work : ℕ) → Taken k w h plate
+    → filterRefusal k w h limit plate out work
+    ≡ refuse (not (leb 1 limit && leb limit plate)) 4 (outRefusal plate out (refuse (ltb work (8 * plate)) 6 0))
+unfolding filterRefusal
+filter-later {k} {w} {h} {plate} limit out work t =
     plate-later k w h plate (limitRefusal w h limit (outRefusal (w * h) out (workRefusal w h work 0))) t ∙ rw (t .long)
+
+-- ---- cleaning
+
+side-known : (side : ℕ) → sideFits side ≡ true → (side ≡ lightSide) ⊎ (side ≡ darkSide)
+unfolding sideFits
+side-known side e = elim (either-cases (eqb side lightSide) (eqb side darkSide) (passes e)) [
+  | inl t ↦ inl (eqb→eq side lightSide t)
+  | inr t ↦ inr (eqb→eq side darkSide t)
+]
+
+-- the side and the sizes that are not refused
+pub record Cleanable (side k w h limit plate out work : ℕ) : Type 0 where
+  pub side-is : (side ≡ lightSide) ⊎ (side ≡ darkSide)
+  pub sizes : Filterable k w h limit plate out work
+
+pub clean-none : (side k w h limit plate out work : ℕ) → cleanRefusal side k w h limit plate out work ≡ 0 → Cleanable side k w h limit plate out work
+unfolding cleanRefusal
+clean-none side k w h limit plate out work e =
+    let a = refuse-none (not (sideFits side)) 26 (filterRefusal k w h limit plate out work) (omega arith) e in
+    record { side-is = side-known side (not-false (sideFits side) (a .0)); sizes = filter-none k w h limit plate out work (a .1) }
 
 -- ---- marking maxima
 

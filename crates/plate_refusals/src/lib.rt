@@ -3,8 +3,21 @@ ghost use mathlib.Core.Path.{_≡_};
 ghost use mathlib.Core.Bool.{_&&_};
 ghost use Prim.Native.Nat.{_*_, _≤_};
 ghost use lib.Dec.{leb, ltb};
-ghost use Rattle.meaning.specs.Plate.{gridFits, connectivityFits, maxSide};
-ghost use Rattle.meaning.specs.Answers.{refuse, plateRefusal, workRefusal, outRefusal, cleanRefusal, maximaRefusal};
+ghost use Rattle.meaning.specs.Plate.{gridFits, connectivityFits, maxExtent};
+ghost use Rattle.meaning.specs.Opening.{sideFits};
+ghost use Rattle.meaning.specs.Answers.{refuse, plateRefusal, workRefusal, outRefusal, filterRefusal, cleanRefusal, maximaRefusal};
+
+// The sides on which a plate is cleaned.
+pub const LIGHT: u32 = 1;
+
+pub const DARK: u32 = 2;
+
+// Is the side light or dark?
+fn side_fits(side: u32) -> bool
+    ensures { λ r. ⌜ r ≡ sideFits side ⌝ }
+{
+    side == LIGHT || side == DARK
+}
 
 // Is the connectivity 4 or 8?
 pub fn connectivity_fits(connectivity: u32) -> bool
@@ -13,19 +26,19 @@ pub fn connectivity_fits(connectivity: u32) -> bool
     connectivity == 4 || connectivity == 8
 }
 
-// Is a side, a width or a height, within the grid?
-fn side_fits(side: u32) -> bool
-    ensures { λ r. ⌜ r ≡ (leb 1 side && leb side maxSide) ⌝ }
+// Is an extent, a width or a height, within the grid?
+fn extent_fits(extent: u32) -> bool
+    ensures { λ r. ⌜ r ≡ (leb 1 extent && leb extent maxExtent) ⌝ }
 {
-    1 <= side && side <= 32768
+    1 <= extent && extent <= 32768
 }
 
 // Are the width, the height and their product, the pixels, within the grid?
 pub fn grid_fits(width: u32, height: u32) -> bool
     ensures { λ r. ⌜ r ≡ gridFits width height ⌝ }
 {
-    if side_fits(width) {
-        if side_fits(height) {
+    if extent_fits(width) {
+        if extent_fits(height) {
             return width * height <= 16777216;
         }
     }
@@ -62,8 +75,8 @@ fn space_refusal(pixels: usize, out: usize, work: usize) -> u32
     0
 }
 
-// The refusal of opening and closing, by the sizes.
-pub fn clean_refusal(
+// The refusal of an operation with a plate, a limit and an output of as many pixels, by the sizes.
+pub fn filter_refusal(
     connectivity: u32,
     width: u32,
     height: u32,
@@ -72,7 +85,7 @@ pub fn clean_refusal(
     out: usize,
     work: usize,
 ) -> u32
-    ensures { λ r. ⌜ r ≡ cleanRefusal connectivity width height limit plate out work ⌝ }
+    ensures { λ r. ⌜ r ≡ filterRefusal connectivity width height limit plate out work ⌝ }
 {
     let refusal = plate_refusal(connectivity, width, height, plate);
     if refusal != 0 {
@@ -85,6 +98,25 @@ pub fn clean_refusal(
         return 4;
     }
     space_refusal(plate, out, work)
+}
+
+// The refusal of cleaning, by the side and the sizes.
+pub fn clean_refusal(
+    side: u32,
+    connectivity: u32,
+    width: u32,
+    height: u32,
+    limit: u32,
+    plate: usize,
+    out: usize,
+    work: usize,
+) -> u32
+    ensures { λ r. ⌜ r ≡ cleanRefusal side connectivity width height limit plate out work ⌝ }
+{
+    if !side_fits(side) {
+        return 26;
+    }
+    filter_refusal(connectivity, width, height, limit, plate, out, work)
 }
 
 // The refusal of marking maxima, by the sizes.

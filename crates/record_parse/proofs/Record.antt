@@ -10,7 +10,7 @@ use Rattle.record_parse.specs.declared.Parse.{Parse}
 use Rattle.record_parse.specs.declared.Parse.the-variants.{Early, Late, Plate}
 use Rattle.record_parse.specs.declared.Step.{Step}
 use Rattle.record_parse.specs.declared.Step.the-variants.{Next, Refused}
-use Rattle.meaning.specs.Plate.{connectivityFits, maxPixels, maxSide}
+use Rattle.meaning.specs.Plate.{connectivityFits, maxPixels, maxExtent}
 use Rattle.meaning.specs.Sets.{pick}
 use Rattle.work_columns.specs.Columns.{Room}
 use Rattle.record_varint.specs.Field.{fieldAt, fieldBound, refused}
@@ -22,7 +22,7 @@ use Rattle.record_parse.proofs.Fields.{Took}
 
 pub record AfterWidth (s : List ℕ) (work w at : ℕ) : Type 0 where
   pub parsed : parse s work ≡ fromHeight s work w at
-  pub wide : w ≤ maxSide
+  pub wide : w ≤ maxExtent
 
 pub record AfterHeight (s : List ℕ) (work w h at : ℕ) : Type 0 where
   pub parsed : parse s work ≡ pick (ltb maxPixels (w * h)) (early 22) (fromConnectivity s work w h at)
@@ -38,20 +38,20 @@ pub record AfterCount (s : List ℕ) (work w h k count at : ℕ) : Type 0 where
   pub some : 1 ≤ count
   pub most : count ≤ w * h
 
-pub width-stops : (s : List ℕ) (work : ℕ) {number : ℕ} → fieldAt s 0 1 maxSide ≡ refused number → parse s work ≡ early number
+pub width-stops : (s : List ℕ) (work : ℕ) {number : ℕ} → fieldAt s 0 1 maxExtent ≡ refused number → parse s work ≡ early number
 unfolding parse
 width-stops s work e = rw e
 
 module _ {s : List ℕ} {work : ℕ} where
-  pub after-width : {w at : ℕ} → Took s 0 1 maxSide w at → AfterWidth s work w at
+  pub after-width : {w at : ℕ} → Took s 0 1 maxExtent w at → AfterWidth s work w at
   unfolding parse
   after-width a = record { parsed = rw (a .read); wide = a .high }
 
   module _ {w at : ℕ} (t : AfterWidth s work w at) where
-    pub after-height : {h next : ℕ} → Took s at 1 maxSide h next → AfterHeight s work w h next
+    pub after-height : {h next : ℕ} → Took s at 1 maxExtent h next → AfterHeight s work w h next
     after-height a = record { parsed = t .parsed ∙ rw (a .read); fits = lt-of-le-of-lt (mul-le-mul (t .wide) (a .high)) (lit< tt) }
 
-    pub height-stops : {number : ℕ} → fieldAt s at 1 maxSide ≡ refused number → parse s work ≡ early number
+    pub height-stops : {number : ℕ} → fieldAt s at 1 maxExtent ≡ refused number → parse s work ≡ early number
     height-stops e = t .parsed ∙ rw e
 
   module _ {w h at : ℕ} (t : AfterHeight s work w h at) where

@@ -7,7 +7,7 @@ use native.Mathlib.Omega.{arith}
 use borrow.Author.Tests.{ltb-false, le-leb, not-false}
 use lib.Dec.{ltb}
 use lib.ListN.{length}
-use Rattle.meaning.specs.Plate.{Plate, connectivityFits, greatestGrey, gridFits, maxPixels, maxSide}
+use Rattle.meaning.specs.Plate.{Plate, connectivityFits, greatestGrey, gridFits, maxPixels, maxExtent}
 use Rattle.meaning.specs.Sets.{nth, pick}
 use Rattle.record_varint.specs.Field.{Reading, accepted, fieldAt, fieldBound, refused}
 use Rattle.record_varint.proofs.Reading.{field-read}
@@ -147,9 +147,9 @@ module _ (s : List ℕ) (k w h : ℕ) (f : List ℕ) where
   pub parse-plate : (work : ℕ) → parse s work ≡ plate k w h f → Plate k w h f × (8 * (w * h) ≤ work)
   unfolding parse gridFits
   parse-plate work e =
-      let width = on-field k w h f (fieldAt s 0 1 maxSide) early (fromHeight s work) early-refuses e in
+      let width = on-field k w h f (fieldAt s 0 1 maxExtent) early (fromHeight s work) early-refuses e in
       let w′ = width .v in
-      let height = on-field k w h f (fieldAt s (width .next) 1 maxSide) early _ early-refuses (width .rest) in
+      let height = on-field k w h f (fieldAt s (width .next) 1 maxExtent) early _ early-refuses (width .rest) in
       let h′ = height .v in
       let grid = on-test k w h f (ltb maxPixels (w′ * h′)) early 22 (fromConnectivity s work w′ h′ (height .next)) early-refuses (height .rest) in
       let kind = on-field k w h f (fieldAt s (height .next) 0 (fieldBound - 1)) early _ early-refuses (grid .1) in
@@ -159,15 +159,15 @@ module _ (s : List ℕ) (k w h : ℕ) (f : List ℕ) where
       on-field k w h f (fieldAt s (kind .next) 1 (w′ * h′)) early
       (λ count next. pick (ltb work (8 * (w′ * h′))) (early 6) (fromRoot s k′ w′ h′ count next)) early-refuses (fit .1) in
       let room = on-test k w h f (ltb work (8 * (w′ * h′))) early 6 (fromRoot s k′ w′ h′ (count .v) (count .next)) early-refuses (count .rest) in
-      let a = field-read s 0 1 maxSide w′ (width .next) (width .read) in
-      let b = field-read s (width .next) 1 maxSide h′ (height .next) (height .read) in
+      let a = field-read s 0 1 maxExtent w′ (width .next) (width .read) in
+      let b = field-read s (width .next) 1 maxExtent h′ (height .next) (height .read) in
       let r = root-plate k′ w′ h′ (count .v) (count .next) (room .1) in
       let sizes : gridFits w′ h′ ≡ true =
       rw (
         le-leb 1 w′ (a .low),
-        le-leb w′ maxSide (a .high),
+        le-leb w′ maxExtent (a .high),
         le-leb 1 h′ (b .low),
-        le-leb h′ maxSide (b .high),
+        le-leb h′ maxExtent (b .high),
         le-leb (w′ * h′) maxPixels (ltb-false maxPixels (w′ * h′) (grid .0)),
       ) in
       spelt-plate r work (not-false (connectivityFits k′) (fit .0)) sizes (ltb-false work (8 * (w′ * h′)) (room .0))

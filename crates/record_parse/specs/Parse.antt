@@ -5,7 +5,7 @@ use Prim.Native.Nat.{ℕ, zero, suc, _+_, _-_, _*_}
 use lib.Dec.{ltb, eqb}
 use lib.ListN.{length}
 use Rattle.meaning.specs.Sets.{pick, nth}
-use Rattle.meaning.specs.Plate.{greatestGrey, maxSide, maxPixels, connectivityFits}
+use Rattle.meaning.specs.Plate.{greatestGrey, maxExtent, maxPixels, connectivityFits}
 use Rattle.meaning.specs.Record.{recordOf}
 use Rattle.record_varint.specs.Field.{Reading, accepted, refused, fieldAt, fieldBound}
 
@@ -90,12 +90,12 @@ module _ (s : List ℕ) where
   -- height; a product beyond the grid counts here
   abbrev pub fromHeight : (work w at : ℕ) → Parsed
   fromHeight work w at =
-      onField (fieldAt s at 1 maxSide) early λ h next. pick (ltb maxPixels (w * h)) (early 22) (fromConnectivity work w h next)
+      onField (fieldAt s at 1 maxExtent) early λ h next. pick (ltb maxPixels (w * h)) (early 22) (fromConnectivity work w h next)
 
   -- all fields, width first; work: the length of the work space
   unfoldable pub parse : ℕ → Parsed
   unfolding levelsFrom greysFrom connectivityFits
-  parse work = onField (fieldAt s 0 1 maxSide) early (fromHeight work)
+  parse work = onField (fieldAt s 0 1 maxExtent) early (fromHeight work)
 
 -- ---- and 24
 

@@ -7,7 +7,7 @@ use native.Mathlib.Omega.{arith}
 use lib.Dec.{eqb, leb, ltb}
 use lib.ListN.{length, drop}
 use borrow.Author.Tests.{eqb-true}
-use Rattle.meaning.specs.Plate.{Plate, connectivityFits, greatestGrey, maxPixels, maxSide}
+use Rattle.meaning.specs.Plate.{Plate, connectivityFits, greatestGrey, maxPixels, maxExtent}
 use Rattle.meaning.specs.Record.{recordOf, varint}
 use Rattle.meaning.specs.Sets.{nth, pick}
 use Rattle.theory_lists.proofs.Tests.{both-true, passes}
@@ -124,12 +124,12 @@ module _ (s : List ℕ) where
   height-numbered : (work w at : ℕ) → Numbered (fromHeight s work w at)
   height-numbered work w at =
       let rest : ℕ → ℕ → Parsed = λ h next. pick (ltb maxPixels (w * h)) (early 22) (fromConnectivity s work w h next) in
-      on-field (fieldAt s at 1 maxSide) early rest (λ number l. l) (at-field at 1 maxSide) λ h next.
+      on-field (fieldAt s at 1 maxExtent) early rest (λ number l. l) (at-field at 1 maxExtent) λ h next.
       on-test (ltb maxPixels (w * h)) (early 22) (fromConnectivity s work w h next) (omega arith) (connectivity-numbered work w h next)
 
   parse-numbered : (work : ℕ) → Numbered (parse s work)
   unfolding parse
-  parse-numbered work = on-field (fieldAt s 0 1 maxSide) early (fromHeight s work) (λ number l. l) (at-field 0 1 maxSide) (height-numbered work)
+  parse-numbered work = on-field (fieldAt s 0 1 maxExtent) early (fromHeight s work) (λ number l. l) (at-field 0 1 maxExtent) (height-numbered work)
 
   compared-numbered : (P : Parsed) → Numbered P → Numbered (compared s P)
   compared-numbered (early number) l = l

@@ -12,7 +12,7 @@ use lib.ListN.{length, drop, length-drop}
 use Rattle.meaning.specs.Component.{grown, same}
 use Rattle.meaning.specs.Nodes.{areaOf, holds, levelOf, nodesOf, own, parent, rise}
 use Rattle.meaning.specs.Paths.{Grid}
-use Rattle.meaning.specs.Plate.{Plate, connectivityFits, greatestGrey, grey, maxPixels, maxSide, touch}
+use Rattle.meaning.specs.Plate.{Plate, connectivityFits, greatestGrey, grey, maxPixels, maxExtent, touch}
 use Rattle.meaning.specs.Record.{encode, fields, nodeFields, recordOf, treeFields, varint}
 use Rattle.meaning.specs.Sets.{area, elem, gather, nth, place, span, sum, table}
 use Rattle.theory_lists.proofs.Lists.{distinct-area, gather-cong, getD-table, length-table, table-suc}
@@ -240,11 +240,11 @@ module _ {k w h : ℕ} {f : List ℕ} (pl : Plate k w h f) where
       let kind : k ≤ 8 = kind-low k (pl .kind) in
       let few-nodes : count ≤ w * h = omega (arith, count-low pl bytes, pl .long) in
       let dark : root ≤ greatestGrey = level-low pl bytes 0 some-nodes in
-      let r₁ : fieldAt bytes 0 1 maxSide ≡ accepted w at₁ =
-      encode-read bytes 0 w (h ∷ rest₂) [] st₀ 1 maxSide (omega (arith, sz .wide .most)) (sz .wide .least) (sz .wide .most) in
+      let r₁ : fieldAt bytes 0 1 maxExtent ≡ accepted w at₁ =
+      encode-read bytes 0 w (h ∷ rest₂) [] st₀ 1 maxExtent (omega (arith, sz .wide .most)) (sz .wide .least) (sz .wide .most) in
       let st₁ : EncodedAt bytes at₁ (h ∷ rest₂) = encode-rest bytes 0 w (h ∷ rest₂) [] st₀ in
-      let r₂ : fieldAt bytes at₁ 1 maxSide ≡ accepted h at₂ =
-      encode-read bytes at₁ h rest₂ [] st₁ 1 maxSide (omega (arith, sz .high .most)) (sz .high .least) (sz .high .most) in
+      let r₂ : fieldAt bytes at₁ 1 maxExtent ≡ accepted h at₂ =
+      encode-read bytes at₁ h rest₂ [] st₁ 1 maxExtent (omega (arith, sz .high .most)) (sz .high .least) (sz .high .most) in
       let st₂ : EncodedAt bytes at₂ rest₂ = encode-rest bytes at₁ h rest₂ [] st₁ in
       let r₃ : fieldAt bytes at₂ 0 (fieldBound - 1) ≡ accepted k at₃ =
       encode-read bytes at₂ k (count ∷ rest₃) [] st₂ 0 (fieldBound - 1) (omega arith) (omega arith) (omega arith) in

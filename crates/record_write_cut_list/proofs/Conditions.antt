@@ -1,4 +1,4 @@
--- The conditions ahead of any work: what sizes say that are not refused, which condition decides, and the refusal from that of opening.
+-- The conditions ahead of any work: what sizes say that are not refused, which condition decides, and the refusal from that of the sizes without the tables.
 use mathlib.Core.Path.{_≡_, refl, sym, ap, _∙_}
 use mathlib.Core.Logic.{_⊎_, inl, inr}
 use mathlib.Core.Bool.{Bool, true, false, not, _&&_, _||_}
@@ -6,10 +6,10 @@ use Prim.Native.Nat.{ℕ, _-_, _*_, _≤_}
 use native.Mathlib.Omega.{arith}
 use lib.Dec.{eqb, leb, ltb}
 use borrow.Author.Tests.{eqb-true, eq-eqb, le-leb, le-ltb, ltb-false}
-use Rattle.meaning.specs.Answers.{cleanRefusal, refuse}
+use Rattle.meaning.specs.Answers.{filterRefusal, refuse}
 use Rattle.meaning.specs.Plate.{connectivityFits, gridFits}
 use Rattle.theory_lists.proofs.Tests.{neither}
-use Rattle.plate_refusals.proofs.Refusals.{Cleanable, clean-none}
+use Rattle.plate_refusals.proofs.Refusals.{Filterable, filter-none}
 use Rattle.record_write_cut_list.specs.WriteCutList.{earlyRefusal}
 
 -- ---- the chain of the tests: connectivity, grid, plate length and limit fit; output or tables are short; the work space is short
@@ -76,7 +76,7 @@ tablesShort n counted lost = ltb counted (n - 1) || ltb lost (n - 1)
 
 -- the sizes that are not refused
 pub record Fits (k w h limit pixels out counted lost work : ℕ) : Type 0 where
-  pub clean : Cleanable k w h limit pixels out work
+  pub sizes : Filterable k w h limit pixels out work
   pub counts-fit : w * h - 1 ≤ counted
   pub losses-fit : w * h - 1 ≤ lost
 
@@ -110,12 +110,12 @@ module _ (k w h limit pixels out counted lost work : ℕ) where
   early-first later x = chain-first kind grid long limited (outShort || short) workShort later x
 
   pub early-fits : early 0 ≡ 0 → Fits k w h limit pixels out counted lost work
-  unfolding earlyRefusal cleanRefusal
+  unfolding earlyRefusal filterRefusal
   early-fits e =
       let x = chain-none kind grid long limited outShort short workShort e in
       let both = neither (ltb counted (w * h - 1)) (ltb lost (w * h - 1)) (x .1) in
       record {
-        clean = clean-none k w h limit pixels out work (x .0);
+        sizes = filter-none k w h limit pixels out work (x .0);
         counts-fit = ltb-false counted (w * h - 1) (both .0);
         losses-fit = ltb-false lost (w * h - 1) (both .1);
       }
@@ -125,33 +125,33 @@ module _ (k w h limit pixels out counted lost work : ℕ) where
   unfolding earlyRefusal
   early-later later f =
       rw (
-        f .clean .taken .kind,
-        f .clean .taken .grid,
-        eq-eqb pixels (w * h) (f .clean .taken .long),
-        le-leb 1 limit (f .clean .limit-low),
-        le-leb limit (w * h) (f .clean .limit-high),
-        le-ltb out (w * h) (f .clean .room),
+        f .sizes .taken .kind,
+        f .sizes .taken .grid,
+        eq-eqb pixels (w * h) (f .sizes .taken .long),
+        le-leb 1 limit (f .sizes .limit-low),
+        le-leb limit (w * h) (f .sizes .limit-high),
+        le-ltb out (w * h) (f .sizes .room),
         le-ltb counted (w * h - 1) (f .counts-fit),
         le-ltb lost (w * h - 1) (f .losses-fit),
-        le-ltb work (8 * (w * h)) (f .clean .space),
+        le-ltb work (8 * (w * h)) (f .sizes .space),
       )
 
-  -- ---- from a number r that was found to be the refusal of opening
+  -- ---- from a number r that was found to be the refusal of the sizes without the tables
 
-  module _ {r : ℕ} (is : r ≡ cleanRefusal k w h limit pixels out work) where
+  module _ {r : ℕ} (is : r ≡ filterRefusal k w h limit pixels out work) where
     pub early-stays : (r ≡ 0 → ⊥) → (r ≡ 6 → ⊥) → r ≡ early 0
-    unfolding earlyRefusal cleanRefusal
+    unfolding earlyRefusal filterRefusal
     early-stays x y = is ∙ chain-stays kind grid long limited outShort short workShort (λ e. x (is ∙ e)) (λ e. y (is ∙ e))
 
     early-tables : (r ≡ 0) ⊎ (r ≡ 6) → {s : Bool} → s ≡ tablesShort pixels counted lost → early 0 ≡ refuse s 5 r
-    unfolding earlyRefusal cleanRefusal
+    unfolding earlyRefusal filterRefusal
     early-tables z {s} q =
         let x = chain-further kind grid long limited outShort short workShort (zero-or-six is z) in
         let e : pixels ≡ w * h = eqb-true pixels (w * h) (x .0) in
         let same : short ≡ s = sym (q ∙ ap (λ (n : ℕ). tablesShort n counted lost) e) in
-        x .1 ∙ ap (λ (b : Bool). refuse b 5 (cleanRefusal k w h limit pixels out work)) same ∙ ap (refuse s 5) (sym is)
+        x .1 ∙ ap (λ (b : Bool). refuse b 5 (filterRefusal k w h limit pixels out work)) same ∙ ap (refuse s 5) (sym is)
 
-    -- a table is short: 5; else the refusal of opening
+    -- a table is short: 5; else that refusal
     pub early-short : (r ≡ 0) ⊎ (r ≡ 6) → {s : Bool} → s ≡ tablesShort pixels counted lost → s ≡ true → 5 ≡ early 0
     early-short z q x = sym (early-tables z q ∙ ap (λ (b : Bool). refuse b 5 r) x)
 

@@ -14,7 +14,7 @@ use Rattle.meaning.specs.Nodes.{nodesOf}
 use Rattle.meaning.specs.Plate.{Plate}
 use Rattle.meaning.specs.Record.{recordOf}
 use Rattle.meaning.specs.Sets.{pick}
-use Rattle.plate_refusals.proofs.Refusals.{Cleanable, tree-later}
+use Rattle.plate_refusals.proofs.Refusals.{Filterable, tree-later}
 use Rattle.record_parse.specs.Parse.{plate, readOf}
 use Rattle.record_roundtrip.proofs.There.{read-there}
 use Rattle.record.specs.declared.Head.{Head}
@@ -102,7 +102,7 @@ module _ (k w h limit : ℕ) (f bytes out counted lost work : List ℕ) {e : ℕ
     unfolding writeRefusal
     write-is =
         tree-later k w h (length f) (length work) (length (recordOf k w h f)) (length bytes)
-        (record { taken = fits .clean .taken; space = fits .clean .space })
+        (record { taken = fits .sizes .taken; space = fits .sizes .space })
 
     whole : refusal ≡ writeRefusal k w h f bytes work
     unfolding writeCutListRefusal
@@ -159,7 +159,7 @@ module _ (k w h limit : ℕ) (f bytes out counted lost work : List ℕ) {e : ℕ
 
         read-is : {v : List ℕ} → v ≡ workAfter true (w * h) work → readOf (take (r .length) bytes₁) (length v) ≡ plate k w h f
         read-is {v} q =
-            let space : 8 * (w * h) ≤ length v = omega (arith, fits .clean .space, zeroed-length (w * h) work (fits .clean .space), ap length q) in
+            let space : 8 * (w * h) ≤ length v = omega (arith, fits .sizes .space, zeroed-length (w * h) work (fits .sizes .space), ap length q) in
             rw passed (read-there pl (length v) space)
 
         pub listed-done : {out₁ counted₁ lost₁ w₂ w₃ : List ℕ} {r₂ : Head} {r₃ : SizeHead}
@@ -171,10 +171,10 @@ module _ (k w h limit : ℕ) (f bytes out counted lost work : List ℕ) {e : ℕ
         listed-done {out₁} {counted₁} {lost₁} {w₂} {w₃} {r₂} {r₃} c s =
             let by : refusal ≡ 0 = whole ∙ no-refusal in
             let t : CutRecord (plate k w h f) limit out out₁ w₁ w₂ r₂ = rw (read-is space-is) at c in
-            let cz = cut-zero pl limit (fits .clean .limit-low) (fits .clean .limit-high) out (fits .clean .room) in
+            let cz = cut-zero pl limit (fits .sizes .limit-low) (fits .sizes .limit-high) out (fits .sizes .room) in
             let w₂-is : w₂ ≡ workAfter true (w * h) work = t .space ∙ ap (workAfter true (w * h)) space-is ∙ zeroed-again (w * h) work in
             let u : ListedSizes (plate k w h f) counted counted₁ lost lost₁ w₂ w₃ r₃ = rw (read-is w₂-is) at s in
-            let sz = size-zero pl counted lost work out (fits .counts-fit) (fits .losses-fit) (fits .clean .space) (fits .clean .room) in
+            let sz = size-zero pl counted lost work out (fits .counts-fit) (fits .losses-fit) (fits .sizes .space) (fits .sizes .room) in
             let w₃-is : w₃ ≡ workAfter true (w * h) work = u .space ∙ ap (workAfter true (w * h)) w₂-is ∙ zeroed-again (w * h) work in
             let cut-is : out₁ ≡ over (cut k w limit f) out = t .output ∙ rw cz in
             let counts-are : counted₁ ≡ over (counts k w f) counted = u .count-table ∙ rw sz in
@@ -191,8 +191,8 @@ module _ (k w h limit : ℕ) (f bytes out counted lost work : List ℕ) {e : ℕ
               accepted = λ q. pl;
               claim = λ q.
                   rw (cut-is, counts-are, losses-are, dark-is)
-                  (at-limit pl limit (fits .clean .limit-low) (fits .clean .limit-high) out counted lost work
-                  (fits .clean .room) (fits .counts-fit) (fits .losses-fit) (fits .clean .space));
+                  (at-limit pl limit (fits .sizes .limit-low) (fits .sizes .limit-high) out counted lost work
+                  (fits .sizes .room) (fits .counts-fit) (fits .losses-fit) (fits .sizes .space));
             }
 
 -- ---- given its space nothing is refused
@@ -203,7 +203,7 @@ pub not-refused : {k w h : ℕ} {f : List ℕ} → Plate k w h f → (limit : �
     → writeCutListRefusal k w h limit f bytes out counted lost work ≡ 0
 unfolding writeCutListRefusal
 not-refused {k} {w} {h} {f} pl limit low high bytes out counted lost work a b c d e =
-    let clean : Cleanable k w h limit (length f) (length out) (length work) = record {
+    let sizes : Filterable k w h limit (length f) (length out) (length work) = record {
       taken = record { kind = pl .kind; grid = pl .sizes; long = pl .long };
       limit-low = low;
       limit-high = high;
@@ -211,5 +211,5 @@ not-refused {k} {w} {h} {f} pl limit low high bytes out counted lost work a b c 
       space = e;
     } in
     early-later k w h limit (length f) (length out) (length counted) (length lost) (length work)
-    (outRefusal (length (recordOf k w h f)) (length bytes) 0) (record { clean = clean; counts-fit = c; losses-fit = d })
+    (outRefusal (length (recordOf k w h f)) (length bytes) 0) (record { sizes = sizes; counts-fit = c; losses-fit = d })
     ∙ rw (le-ltb (length bytes) (length (recordOf k w h f)) a)

@@ -8,25 +8,12 @@ use test_case_lines::lists::print_bytes;
 use test_case_lines::lists::print_number;
 use test_case_lines::lists::print_words;
 
-fn open(line: &[u8], bytes: &[u8], out: &mut [u8], work: &mut [u32]) {
+fn clean(line: &[u8], bytes: &[u8], out: &mut [u8], work: &mut [u32]) {
     let s = shape_of(line);
+    let side = field(line, b"side");
     let limit = field(line, b"limit");
-    let refusal = plate_filter::area_open(
-        bytes,
-        s.width,
-        s.height,
-        s.connectivity,
-        limit,
-        out,
-        work,
-    );
-    print_number(refusal as u64);
-}
-
-fn close(line: &[u8], bytes: &[u8], out: &mut [u8], work: &mut [u32]) {
-    let s = shape_of(line);
-    let limit = field(line, b"limit");
-    let refusal = plate_filter::area_close(
+    let refusal = plate_filter::clean(
+        side,
         bytes,
         s.width,
         s.height,
@@ -76,12 +63,8 @@ fn cut(line: &[u8], bytes: &[u8], out: &mut [u8], work: &mut [u32]) {
 
 // Runs the case, if it is one of these.
 fn choose(line: &[u8], bytes: &[u8], out: &mut [u8], work: &mut [u32]) {
-    if is_named(line, b"open") {
-        open(line, bytes, out, work);
-        return;
-    }
-    if is_named(line, b"close") {
-        close(line, bytes, out, work);
+    if is_named(line, b"clean") {
+        clean(line, bytes, out, work);
         return;
     }
     if is_named(line, b"maxima") {

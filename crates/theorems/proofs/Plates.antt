@@ -139,9 +139,18 @@ module _ {k w h : ℕ} {f : List ℕ} (plate : Plate k w h f) where
       ap (λ (n : ℕ). sum n (grey (table (length f) g))) (length-table (length f) g)
       ∙ sum-cong (length f) (grey (table (length f) g)) g (grey-table (length f) g)
 
--- ---- the closing
+-- ---- the negative twice, and the closing
 
 module _ {k w h : ℕ} {f : List ℕ} (plate : Plate k w h f) where
+  pub negative-twice : negative (negative f) ≡ f
+  negative-twice =
+      let neg : Plate k w h (negative f) = negative-plate plate in
+      let e : length (negative (negative f)) ≡ length f = negative-length neg ∙ negative-length plate in
+      ext-getD 0 (negative (negative f)) f e
+      (λ p l.
+      let m : p < length f = rw e at l in
+      omega (arith, negative-grey neg p (rw (negative-length plate) m), negative-grey plate p m, plate .greys p m))
+
   pub closed-length : (limit : ℕ) → length (closed k w limit f) ≡ length f
   unfolding closed negative
   closed-length limit =
@@ -154,3 +163,8 @@ module _ {k w h : ℕ} {f : List ℕ} (plate : Plate k w h f) where
   closed-grey limit p l =
       getD-map (λ (g : ℕ). greatestGrey - g) (opened k w limit (negative f)) p
       (omega (arith, opened-length (negative-plate plate) limit, negative-length plate))
+
+  -- closing the negative is the negative of opening
+  pub closed-negative : (limit : ℕ) → closed k w limit (negative f) ≡ negative (opened k w limit f)
+  unfolding closed
+  closed-negative limit = rw negative-twice

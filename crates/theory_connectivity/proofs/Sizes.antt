@@ -4,23 +4,23 @@ use mathlib.Core.Bool.{true, _&&_}
 use Prim.Native.Nat.{ℕ, _*_, _≤_}
 use native.Mathlib.Nat.{mul-le-mul}
 use lib.Dec.{T, leb, leb→le}
-use Rattle.meaning.specs.Plate.{gridFits, maxPixels, maxSide}
+use Rattle.meaning.specs.Plate.{gridFits, maxPixels, maxExtent}
 use Rattle.theory_lists.proofs.Tests.{passes, tests}
 
--- a side that fits
-pub record Side (s : ℕ) : Type 0 where
+-- a width or a height that fits
+pub record Extent (s : ℕ) : Type 0 where
   pub least : 1 ≤ s
-  pub most : s ≤ maxSide
+  pub most : s ≤ maxExtent
 
-pub side-is : (s : ℕ) → (leb 1 s && leb s maxSide) ≡ true → Side s
-side-is s e =
-    let t : T (leb 1 s && leb s maxSide) = passes e in
-    record { least = leb→le 1 s (search tests); most = leb→le s maxSide (search tests) }
+pub extent-is : (s : ℕ) → (leb 1 s && leb s maxExtent) ≡ true → Extent s
+extent-is s e =
+    let t : T (leb 1 s && leb s maxExtent) = passes e in
+    record { least = leb→le 1 s (search tests); most = leb→le s maxExtent (search tests) }
 
 -- a width, a height and pixels that fit
 pub record Sizes (w h : ℕ) : Type 0 where
-  pub wide : Side w
-  pub high : Side h
+  pub wide : Extent w
+  pub high : Extent h
   pub some-pixels : 1 ≤ w * h
   pub few-pixels : w * h ≤ maxPixels
 
@@ -28,8 +28,8 @@ pub grid-sizes : (w h : ℕ) → gridFits w h ≡ true → Sizes w h
 unfolding gridFits
 grid-sizes w h e =
     let t : T (gridFits w h) = passes e in
-    let a : Side w = record { least = leb→le 1 w (search tests); most = leb→le w maxSide (search tests) } in
-    let b : Side h = record { least = leb→le 1 h (search tests); most = leb→le h maxSide (search tests) } in
+    let a : Extent w = record { least = leb→le 1 w (search tests); most = leb→le w maxExtent (search tests) } in
+    let b : Extent h = record { least = leb→le 1 h (search tests); most = leb→le h maxExtent (search tests) } in
     record {
       wide = a;
       high = b;
@@ -37,6 +37,6 @@ grid-sizes w h e =
       few-pixels = leb→le (w * h) maxPixels (search tests);
     }
 
--- the product of two sides
-pub product : (w h : ℕ) → Side w → Side h → w * h ≤ maxSide * maxSide
-product w h a b = mul-le-mul {n₁ = w} {m₁ = h} {n₂ = maxSide} {m₂ = maxSide} (a .most) (b .most)
+-- the product of the two
+pub product : (w h : ℕ) → Extent w → Extent h → w * h ≤ maxExtent * maxExtent
+product w h a b = mul-le-mul {n₁ = w} {m₁ = h} {n₂ = maxExtent} {m₂ = maxExtent} (a .most) (b .most)

@@ -1,5 +1,5 @@
 -- `plate_filter::clean` meets its contract.
-use mathlib.Core.Path.{sym, _∙_}
+use mathlib.Core.Path.{refl, sym, _∙_}
 use Prim.Native.Nat.{_≤_}
 use native.Mathlib.Omega.{arith}
 use borrow.Author.Needs.{needs}
@@ -8,7 +8,7 @@ use lib.ListN.{length}
 use Rattle.plate_filter.proofs.clean.Statement.{statement}
 use Rattle.plate_filter.proofs.clean.Tie as tie
 use Rattle.work_columns.proofs.Columns.{before, frame-trans}
-use Rattle.plate_refusals.proofs.Refusals.{Cleanable, clean-none, plate-later}
+use Rattle.plate_refusals.proofs.Refusals.{Filterable, clean-none, plate-later}
 use Rattle.plate_filter.proofs.Results.{answered, answered-refused, cut-answer, cut-writable, plate-tree-parents}
 
 clean-refusal-requires : tie.Need-clean-refusal-requires
@@ -20,11 +20,11 @@ returns c = answered-refused (c .before .clean-refusal .ensures) (c .if1 .taken)
 -- what the sizes say, where nothing is refused
 sized : (c : tie.Else1)
     → let s = c .before .before .before .before .before .args in
-    Cleanable (s .connectivity) (s .width) (s .height) (s .limit) (length (now (s .image))) (length (now (s .out))) (length (now (s .work)))
+    Filterable (s .connectivity) (s .width) (s .height) (s .limit) (length (now (s .image))) (length (now (s .out))) (length (now (s .work)))
 sized c =
     let s = c .before .before .before .before .before .args in
-    clean-none (s .connectivity) (s .width) (s .height) (s .limit) (length (now (s .image))) (length (now (s .out))) (length (now (s .work)))
-    (sym (c .before .clean-refusal .ensures) ∙ c .if1 .left)
+    clean-none (s .side) (s .connectivity) (s .width) (s .height) (s .limit) (length (now (s .image))) (length (now (s .out))) (length (now (s .work)))
+    (sym (c .before .clean-refusal .ensures) ∙ c .if1 .left) .sizes
 
 limit-fits : (c : tie.Else1) → let s = c .before .before .before .before .before .args in s .limit ≤ length (now (s .image))
 limit-fits c = let z = sized c in omega (arith, z .limit-high, z .taken .long)
@@ -59,10 +59,11 @@ returns-2 c =
     let t = d .before .before .before .before .before in
     let p = t .before .before .before .before in
     let e = p .before .before in
+    let s = e .before .before .before .before .before .args in
     answered (e .before .clean-refusal .ensures) (e .if1 .left) (p .plate-tree .ensures .plate)
     (frame-trans (p .plate-tree .ensures .frame) (t .cut-values .ensures .valued .frame))
     (d .deliver .ensures)
-    (cut-answer (p .plate-tree .ensures) (limit-fits e) (t .cut-values .ensures))
+    (cut-answer (p .plate-tree .ensures) (limit-fits e) (t .cut-values .ensures) (s .side) refl)
 
 pub clean-spec : {M : Type 1} → statement M
 clean-spec =

@@ -1,55 +1,26 @@
 -- `plate_refusals::clean_refusal` meets its contract.
-use Prim.Native.Nat.{_*_}
+use mathlib.Core.Path.{sym, _∙_}
 use borrow.Author.Needs.{needs}
-use borrow.Author.Tests.{le-leb, lt-leb}
+use borrow.Author.Tests.{not-false, not-true}
 use Rattle.plate_refusals.proofs.clean_refusal.Statement.{statement}
 use Rattle.plate_refusals.proofs.clean_refusal.Tie as tie
-use Rattle.meaning.specs.Answers.{cleanRefusal, limitRefusal, outRefusal, workRefusal}
-use Rattle.plate_refusals.proofs.Refusals.{Taken, clean-later, decided, passed, taken-few}
+use Rattle.meaning.specs.Answers.{cleanRefusal}
 
-plate-refusal-requires : tie.Need-plate-refusal-requires
-plate-refusal-requires c κs = search needs
-
-taken : (c : tie.Else1) → let s = c .before .before .args in Taken (s .connectivity) (s .width) (s .height) (s .plate)
-taken c =
-    let s = c .before .before .args in
-    passed (s .connectivity) (s .width) (s .height) (s .plate) (c .before .plate-refusal .ensures) (c .if1 .left)
+side-fits-requires : tie.Need-side-fits-requires
+side-fits-requires c κs = search needs
 
 returns : tie.Need-returns
 unfolding cleanRefusal
-returns c =
-    let s = c .before .before .args in
-    decided (s .connectivity) (s .width) (s .height) (s .plate) (c .before .plate-refusal .ensures)
-    (limitRefusal (s .width) (s .height) (s .limit) (outRefusal (s .width * s .height) (s .out) (workRefusal (s .width) (s .height) (s .work) 0)))
-    (c .if1 .taken)
+returns c = rw (sym (c .before .side-fits .ensures) ∙ not-true (c .before .side-fits .result) (c .if1 .taken))
+
+filter-refusal-requires : tie.Need-filter-refusal-requires
+filter-refusal-requires c κs = search needs
 
 returns-2 : tie.Need-returns-2
+unfolding cleanRefusal
 returns-2 c =
-    let s = c .before .before .before .args in
-    rw (clean-later (s .limit) (s .out) (s .work) (taken (c .before)), lt-leb 1 (s .limit) (c .if2 .taken))
-
-returns-3 : tie.Need-returns-3
-returns-3 c =
-    let s = c .before .before .before .before .args in
-    rw (
-      clean-later (s .limit) (s .out) (s .work) (taken (c .before .before)),
-      le-leb 1 (s .limit) (c .before .if2 .left),
-      lt-leb (s .limit) (s .plate) (c .if3 .taken),
-    )
-
-space-refusal-requires : tie.Need-space-refusal-requires
-space-refusal-requires c κs = taken-few (taken (c .before .before))
-
-returns-4 : tie.Need-returns-4
-returns-4 c =
-    let s = c .before .before .before .before .before .args in
-    rw (
-      clean-later (s .limit) (s .out) (s .work) (taken (c .before .before .before)),
-      le-leb 1 (s .limit) (c .before .before .if2 .left),
-      le-leb (s .limit) (s .plate) (c .before .if3 .left),
-    ) (c .space-refusal .ensures)
+    let f = c .before .before .side-fits in
+    rw (sym (f .ensures) ∙ not-false (f .result) (c .before .if1 .left)) (c .filter-refusal .ensures)
 
 pub clean-refusal-spec : {M : Type 1} → statement M
-clean-refusal-spec =
-    tie.close
-    (tie.spec plate-refusal-requires returns returns-2 returns-3 space-refusal-requires returns-4)
+clean-refusal-spec = tie.close (tie.spec side-fits-requires returns filter-refusal-requires returns-2)
