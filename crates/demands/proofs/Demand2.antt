@@ -85,5 +85,5 @@ pub cleaning : CleaningClaim
 cleaning = record {
   cleaning = λ side k w h limit f out out′ work work′ r a z. side-holds a z (cleanable a z .side-is);
   refused-alike = λ k w h limit f out out′ work work′ lent lent′ space space′ r r′ a b x y. alike a b x y;
-  negatives = λ k w h limit f out out′ work work′ lent lent′ space space′ r r′ a b z z′. each-other a b z z′;
+  negatives = λ k w h limit f out out′ work work′ lent lent′ space space′ r r′ a z b z′. each-other a b z z′;
 }
