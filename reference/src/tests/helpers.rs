@@ -33,9 +33,9 @@ impl Lcg {
     }
 
     /// A random plate with its width and height, at most this many of each.
-    pub fn plate(&mut self, sides: u32) -> (Vec<u8>, u32, u32) {
-        let width = 1 + self.below(sides);
-        let height = 1 + self.below(sides);
+    pub fn plate(&mut self, most: u32) -> (Vec<u8>, u32, u32) {
+        let width = 1 + self.below(most);
+        let height = 1 + self.below(most);
         let palette: Vec<u8> = (0..1 + self.below(6)).map(|_| self.grey()).collect();
         let plate = (0..width * height)
             .map(|_| palette[self.below(palette.len() as u32) as usize])
