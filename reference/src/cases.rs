@@ -28,6 +28,11 @@ fn on_record(name: &'static str, record: &[u8], work: usize) -> Case<'static> {
     Case::new(name).with("work", work).on(record)
 }
 
+/// A case of cleaning, with its side alone.
+fn cleaning(side: u32) -> Case<'static> {
+    Case::new("clean").with("side", side)
+}
+
 /// A plate.
 #[derive(Clone)]
 struct Plate {
@@ -59,7 +64,12 @@ impl Plate {
 
     /// A case on the plate with work space, and a little excess.
     fn case(&self, name: &'static str, connectivity: u32) -> Case<'static> {
-        Case::new(name)
+        self.added_to(Case::new(name), connectivity)
+    }
+
+    /// The same, added to a case that lacks the plate.
+    fn added_to(&self, begun: Case<'static>, connectivity: u32) -> Case<'static> {
+        begun
             .with("width", self.width)
             .with("height", self.height)
             .with("connectivity", connectivity)
@@ -68,8 +78,8 @@ impl Plate {
     }
 
     /// The same with a limit and an output.
-    fn cleaning(&self, name: &'static str, connectivity: u32, limit: u32) -> Case<'static> {
-        self.case(name, connectivity)
+    fn limited(&self, begun: Case<'static>, connectivity: u32, limit: u32) -> Case<'static> {
+        self.added_to(begun, connectivity)
             .with("limit", limit)
             .with("out", self.pixels() + 1)
     }
