@@ -6,8 +6,10 @@ mod files;
 mod joint;
 mod netpbm;
 mod plates;
+mod sides;
 
 use crate::case::Case;
+use crate::cleaning::negative;
 use crate::grid::Grid;
 use crate::nodes::nodes_of;
 use crate::record::record_of;
@@ -16,6 +18,7 @@ use crate::record::record_of;
 pub fn cases_text() -> String {
     let mut cases = Vec::new();
     plates::cases(&mut cases);
+    sides::cases(&mut cases);
     damage::cases(&mut cases);
     joint::cases(&mut cases);
     files::cases(&mut cases);
@@ -55,6 +58,12 @@ impl Plate {
     fn small() -> Plate {
         let greys = [10, 10, 10, 10, 10, 50, 30, 10, 10, 10, 10, 90];
         Plate::new(4, 3, |p| greys[p as usize])
+    }
+
+    /// The negative.
+    fn negative(&self) -> Plate {
+        let greys = negative(&self.greys);
+        Plate { greys, ..*self }
     }
 
     /// The number of pixels.

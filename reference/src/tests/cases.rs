@@ -19,7 +19,7 @@ fn answers(text: &str, name: &str) -> BTreeSet<u32> {
 fn every_refusal_occurs() {
     let text = vectors_text(&cases_text());
     let expected: [(&str, &[u32]); 11] = [
-        ("clean", &[0, 1, 2, 3, 4, 5, 6]),
+        ("clean", &[0, 1, 2, 3, 4, 5, 6, 26]),
         ("maxima", &[0, 1, 2, 3, 5, 6]),
         ("nodes", &[0, 1, 2, 3, 5, 6]),
         ("entries", &[0, 1, 2, 3, 5, 6]),
@@ -37,6 +37,19 @@ fn every_refusal_occurs() {
             numbers.iter().copied().collect(),
             "{name}"
         );
+    }
+}
+
+#[test]
+fn every_refusal_of_cleaning_occurs_on_both_sides() {
+    let cases = cases_text();
+    let sides = [(LIGHT, 0..=6), (DARK, 0..=6)];
+    let neither = [0, 3, u32::MAX].map(|side| (side, 26..=26));
+    for (side, numbers) in sides.into_iter().chain(neither) {
+        let begun = format!("clean side {side} ");
+        let lines = cases.lines().filter(|line| line.starts_with(&begun));
+        let chosen = lines.collect::<Vec<_>>().join("\n");
+        assert_eq!(answers(&vectors_text(&chosen), "clean"), numbers.collect());
     }
 }
 
@@ -105,6 +118,19 @@ fn the_specifications_examples() {
     holds(
         &format!("read work 97 out 12 bytes 132 0{}", &SMALL_FIELDS[1..]),
         "read 21 0 0 0 | 170*12 | 7*97",
+    );
+}
+
+#[test]
+fn a_plate_on_the_light_side_and_its_negative_on_the_dark_side() {
+    let fields = "width 4 height 3 connectivity 4 work 98 limit 3 out 13";
+    holds(
+        &format!("clean side 1 {fields} bytes 0*2 9*2 0 9*2 0 9 0*2 9"),
+        "clean 0 | 0*2 9*2 0 9*2 0*5 170 | 0*96 7*2",
+    );
+    holds(
+        &format!("clean side 2 {fields} bytes 255*2 246*2 255 246*2 255 246 255*2 246"),
+        "clean 0 | 255*2 246*2 255 246*2 255*5 170 | 0*96 7*2",
     );
 }
 
