@@ -6,8 +6,10 @@ mod files;
 mod joint;
 mod netpbm;
 mod plates;
+mod sides;
 
 use crate::case::Case;
+use crate::cleaning::negative;
 use crate::grid::Grid;
 use crate::nodes::nodes_of;
 use crate::record::record_of;
@@ -16,6 +18,7 @@ use crate::record::record_of;
 pub fn cases_text() -> String {
     let mut cases = Vec::new();
     plates::cases(&mut cases);
+    sides::cases(&mut cases);
     damage::cases(&mut cases);
     joint::cases(&mut cases);
     files::cases(&mut cases);
@@ -26,6 +29,11 @@ pub fn cases_text() -> String {
 /// A case on a record, with work space.
 fn on_record(name: &'static str, record: &[u8], work: usize) -> Case<'static> {
     Case::new(name).with("work", work).on(record)
+}
+
+/// A case of cleaning, with its side alone.
+fn cleaning(side: u32) -> Case<'static> {
+    Case::new("clean").with("side", side)
 }
 
 /// A plate.
@@ -52,6 +60,12 @@ impl Plate {
         Plate::new(4, 3, |p| greys[p as usize])
     }
 
+    /// The negative.
+    fn negative(&self) -> Plate {
+        let greys = negative(&self.greys);
+        Plate { greys, ..*self }
+    }
+
     /// The number of pixels.
     fn pixels(&self) -> usize {
         self.greys.len()
@@ -59,7 +73,12 @@ impl Plate {
 
     /// A case on the plate with work space, and a little excess.
     fn case(&self, name: &'static str, connectivity: u32) -> Case<'static> {
-        Case::new(name)
+        self.added_to(Case::new(name), connectivity)
+    }
+
+    /// The same, added to a case that lacks the plate.
+    fn added_to(&self, begun: Case<'static>, connectivity: u32) -> Case<'static> {
+        begun
             .with("width", self.width)
             .with("height", self.height)
             .with("connectivity", connectivity)
@@ -68,8 +87,8 @@ impl Plate {
     }
 
     /// The same with a limit and an output.
-    fn cleaning(&self, name: &'static str, connectivity: u32, limit: u32) -> Case<'static> {
-        self.case(name, connectivity)
+    fn limited(&self, begun: Case<'static>, connectivity: u32, limit: u32) -> Case<'static> {
+        self.added_to(begun, connectivity)
             .with("limit", limit)
             .with("out", self.pixels() + 1)
     }

@@ -1,15 +1,20 @@
-//! Opening and closing a plate at a limit.
+//! Cleaning a plate at a limit, on the light or the dark side.
 
 use crate::grid::{check_plate, thresholds, Grid};
 use crate::work::{check_work, zero_work};
 use crate::Done;
 
-/// Opening or closing: plate, width, height, connectivity, limit, output,
-/// work space.
-pub type Cleaning = fn(&[u8], u32, u32, u32, u32, &mut [u8], &mut [u32]) -> Done;
+/// The side on which light patches are cleaned.
+pub const LIGHT: u32 = 1;
+/// The side on which dark patches are cleaned.
+pub const DARK: u32 = 2;
+/// Both sides.
+pub const SIDES: [u32; 2] = [LIGHT, DARK];
 
-/// Opens the plate: light patches below the limit are cleaned.
-pub fn area_open(
+/// Cleans the plate: the side's patches below the limit.
+#[allow(clippy::too_many_arguments)]
+pub fn clean(
+    side: u32,
     plate: &[u8],
     width: u32,
     height: u32,
@@ -18,44 +23,29 @@ pub fn area_open(
     out: &mut [u8],
     work: &mut [u32],
 ) -> Done {
-    let grid = match check_cleaning(plate, (width, height, connectivity), limit, out, work) {
+    let shape = (width, height, connectivity);
+    let grid = match check_cleaning(side, plate, shape, limit, out, work) {
         Ok(grid) => grid,
         Err(refusal) => return Done { refusal },
     };
-    let opened = opened_plate(&grid, plate, limit as usize);
-    out[..opened.len()].copy_from_slice(&opened);
+    let cleaned = cleaned_plate(side, &grid, plate, limit as usize);
+    out[..cleaned.len()].copy_from_slice(&cleaned);
     zero_work(work, grid.pixels());
     Done::default()
 }
 
-/// Closes the plate: dark patches below the limit are cleaned.
-pub fn area_close(
-    plate: &[u8],
-    width: u32,
-    height: u32,
-    connectivity: u32,
-    limit: u32,
-    out: &mut [u8],
-    work: &mut [u32],
-) -> Done {
-    let grid = match check_cleaning(plate, (width, height, connectivity), limit, out, work) {
-        Ok(grid) => grid,
-        Err(refusal) => return Done { refusal },
-    };
-    let closed = negative(&opened_plate(&grid, &negative(plate), limit as usize));
-    out[..closed.len()].copy_from_slice(&closed);
-    zero_work(work, grid.pixels());
-    Done::default()
-}
-
-/// The conditions of opening and closing: 1, 2, 3, 4, 5, 6.
+/// The conditions of cleaning: 26, 1, 2, 3, 4, 5, 6.
 fn check_cleaning(
+    side: u32,
     plate: &[u8],
     shape: (u32, u32, u32),
     limit: u32,
     out: &[u8],
     work: &[u32],
 ) -> Result<Grid, u32> {
+    if !SIDES.contains(&side) {
+        return Err(26);
+    }
     let grid = check_limit(plate, shape, limit)?;
     if out.len() < grid.pixels() {
         return Err(5);
@@ -75,6 +65,16 @@ pub fn check_limit(
         return Err(4);
     }
     Ok(grid)
+}
+
+/// The plate cleaned on a side: on the light side it is opened; on the dark
+/// side its negative is, and the result is negated back.
+fn cleaned_plate(side: u32, grid: &Grid, plate: &[u8], limit: usize) -> Vec<u8> {
+    if side == LIGHT {
+        opened_plate(grid, plate, limit)
+    } else {
+        negative(&opened_plate(grid, &negative(plate), limit))
+    }
 }
 
 /// Each pixel's opened value: the greatest t for which its component of

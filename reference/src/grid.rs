@@ -1,7 +1,7 @@
 //! The grid of a plate: its bounds, its touching pixels, its components.
 
 /// The greatest width and the greatest height.
-pub const MAX_SIDE: u32 = 32_768;
+pub const MAX_WIDTH_OR_HEIGHT: u32 = 32_768;
 /// The greatest number of pixels.
 pub const MAX_PIXELS: u64 = 16_777_216;
 
@@ -19,13 +19,15 @@ pub fn is_connectivity(connectivity: u32) -> bool {
 }
 
 /// Is this a width, or a height, taken alone?
-pub fn is_side(side: u32) -> bool {
-    (1..=MAX_SIDE).contains(&side)
+pub fn is_width_or_height(number: u32) -> bool {
+    (1..=MAX_WIDTH_OR_HEIGHT).contains(&number)
 }
 
 /// Are width, height and their product all within the grid?
 pub fn is_size(width: u32, height: u32) -> bool {
-    is_side(width) && is_side(height) && u64::from(width) * u64::from(height) <= MAX_PIXELS
+    is_width_or_height(width)
+        && is_width_or_height(height)
+        && u64::from(width) * u64::from(height) <= MAX_PIXELS
 }
 
 /// The checks that begin every operation on a plate: 1, then 2, then 3.

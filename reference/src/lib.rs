@@ -25,7 +25,7 @@ pub mod vectors;
 pub mod work;
 
 pub use cases::cases_text;
-pub use cleaning::{area_close, area_open, Cleaning};
+pub use cleaning::{clean, DARK, LIGHT, SIDES};
 pub use deep::deep_text;
 pub use grid::{touching, Grid};
 pub use ink::ink_percentage;

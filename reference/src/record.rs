@@ -1,6 +1,6 @@
 //! Writing a record, reading it, and cutting it at a limit.
 
-use crate::grid::{check_plate, is_connectivity, is_side, is_size, Grid};
+use crate::grid::{check_plate, is_connectivity, is_size, is_width_or_height, Grid};
 use crate::nodes::{cut_of, nodes_of, own_nodes, Node};
 use crate::varint::{spelled, take_field};
 use crate::work::{check_work, zero_work};
@@ -161,7 +161,7 @@ pub fn accept_record(record: &[u8], work: &mut [u32]) -> Result<Held, u32> {
 
 /// Width, height, connectivity and node count.
 fn take_head(fields: &mut Fields) -> Result<(Grid, u32), u32> {
-    let width = fields.take(is_side)?;
+    let width = fields.take(is_width_or_height)?;
     let height = fields.take(|height| is_size(width, height))?;
     let connectivity = fields.take(is_connectivity)?;
     let grid = Grid::new(width, height, connectivity);

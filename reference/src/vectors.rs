@@ -7,7 +7,7 @@
 //! places. An output holds 170 before, a table, a column or an entry 9, the
 //! work space 7.
 //!
-//! - `open`, `close`: a plate, `limit`, `out`, `work`
+//! - `clean`: `side`, a plate, `limit`, `out`, `work`
 //! - `maxima`, `write`: a plate, `out`, `work`
 //! - `nodes`: a plate, `levels`, `parents`, `areas`, `anchors`, `work`
 //! - `entries`: a plate, `at` (the entry that is read), `work`; six entries are lent
@@ -33,8 +33,7 @@ pub fn vectors_text(input: &str) -> String {
 /// The line of a case.
 fn answer(case: &Case) -> String {
     let said = match case.name {
-        "open" => cleaned(case, area_open),
-        "close" => cleaned(case, area_close),
+        "clean" => cleaned(case),
         "maxima" => maxima(case),
         "write" => write(case),
         "nodes" => nodes(case),
@@ -68,12 +67,12 @@ fn buffers(case: &Case) -> (Vec<u8>, Vec<u32>) {
     (case.lent("out", 170), case.lent("work", 7))
 }
 
-/// Opening or closing.
-fn cleaned(case: &Case, clean: Cleaning) -> String {
+/// Cleaning.
+fn cleaned(case: &Case) -> String {
     let (w, h, k) = shape(case);
     let (mut out, mut work) = buffers(case);
-    let limit = case.number("limit");
-    let done = clean(&case.bytes(), w, h, k, limit, &mut out, &mut work);
+    let (side, limit) = (case.number("side"), case.number("limit"));
+    let done = clean(side, &case.bytes(), w, h, k, limit, &mut out, &mut work);
     format!(" {}", done.refusal) + &barred(&out) + &barred(&work)
 }
 

@@ -102,7 +102,7 @@ fn reformed(record: &[u8], cases: &mut Vec<Case>) {
 
 /// Fields just inside and just outside their ranges.
 fn ranged(record: &[u8], cases: &mut Vec<Case>) {
-    let sides: [&[u8]; 9] = [
+    let sizes: [&[u8]; 9] = [
         &[0, 3],
         &[4, 0],
         &[128, 128, 2, 1],
@@ -113,9 +113,9 @@ fn ranged(record: &[u8], cases: &mut Vec<Case>) {
         &[128, 32, 128, 32],
         &[129, 32, 128, 32],
     ];
-    for side in sides {
-        read(&[side, &record[2..]].concat(), cases);
-        read(side, cases);
+    for size in sizes {
+        read(&[size, &record[2..]].concat(), cases);
+        read(size, cases);
     }
     let places = [
         (2, 300),

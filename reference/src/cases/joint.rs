@@ -30,8 +30,9 @@ pub fn cases(cases: &mut Vec<Case>) {
 /// A case with a little excess in every buffer.
 fn ample(plate: &Plate, connectivity: u32) -> Case<'static> {
     let record = plate.described(connectivity).1;
+    let limit = 2.min(plate.pixels() as u32);
     plate
-        .cleaning("joint", connectivity, 2.min(plate.pixels() as u32))
+        .limited(Case::new("joint"), connectivity, limit)
         .with("record", record.len() + 3)
         .with("counts", plate.pixels())
         .with("losses", plate.pixels() + 1)

@@ -1,7 +1,8 @@
 //! Cases on plates and on their records: every operation, limits of every
 //! kind, buffers that just fit and that just do not, every set of conditions.
 
-use super::{on_record, Case, Plate};
+use super::{cleaning, on_record, Case, Plate};
+use crate::{LIGHT, SIDES};
 
 /// All of them.
 pub fn cases(cases: &mut Vec<Case>) {
@@ -66,11 +67,10 @@ pub fn limits(pixels: usize) -> Vec<u32> {
     limits
 }
 
-/// Opening, closing, marks.
+/// Both sides cleaned, marks.
 fn cleaned(plate: &Plate, connectivity: u32, cases: &mut Vec<Case>) {
     for limit in limits(plate.pixels()) {
-        cases.push(plate.cleaning("open", connectivity, limit));
-        cases.push(plate.cleaning("close", connectivity, limit));
+        cases.extend(SIDES.map(|side| plate.limited(cleaning(side), connectivity, limit)));
     }
     let case = plate.case("maxima", connectivity);
     cases.push(case.with("out", plate.pixels() + 1));
@@ -146,14 +146,16 @@ fn entries(cases: &mut Vec<Case>) {
     }
 }
 
-/// The operations on a plate.
-const OPERATIONS: [&str; 7] = [
-    "open", "close", "maxima", "nodes", "entries", "write", "joint",
-];
+/// The operations on a plate, cleaning once for each side: cases that still
+/// lack the plate.
+fn operations() -> impl Iterator<Item = Case<'static>> {
+    let others = ["maxima", "nodes", "entries", "write", "joint"];
+    SIDES.map(cleaning).into_iter().chain(others.map(Case::new))
+}
 
-/// A case of an operation on the small plate, with these places for anything.
-fn small(name: &'static str, connectivity: u32, limit: u32, places: usize) -> Case<'static> {
-    let case = Plate::small().case(name, connectivity);
+/// An operation's case on the small plate, with these places for anything.
+fn small(begun: Case<'static>, connectivity: u32, limit: u32, places: usize) -> Case<'static> {
+    let case = Plate::small().added_to(begun, connectivity);
     places_of(case.with("limit", limit), places)
 }
 
@@ -172,8 +174,8 @@ fn places_of(case: Case<'static>, places: usize) -> Case<'static> {
 /// Numbers beyond what is allowed, one at a time, for each operation.
 fn parameters(cases: &mut Vec<Case>) {
     let most = u32::MAX;
-    for name in OPERATIONS {
-        let base = || small(name, 4, 2, 40);
+    for operation in operations() {
+        let base = || small(operation.clone(), 4, 2, 40);
         for connectivity in [0, 1, 3, 5, 6, 7, 9, 12, most] {
             cases.push(base().with("connectivity", connectivity));
         }
@@ -216,28 +218,32 @@ fn parameters(cases: &mut Vec<Case>) {
 /// Every set of the conditions at once: the first in the specification's
 /// order decides.
 fn conditions(cases: &mut Vec<Case>) {
-    for name in OPERATIONS {
-        for met in 0..64 {
-            let places = if met & 16 != 0 { 3 } else { 30 };
-            let mut case = small(name, 8, 3, places);
-            if met & 1 != 0 {
-                case = case.with("connectivity", 6);
-            }
-            if met & 2 != 0 {
-                case = case.with("height", 0);
-            }
-            if met & 4 != 0 {
-                case = case.on(&Plate::small().greys[..11]);
-            }
-            if met & 8 != 0 {
-                case = case.with("limit", 0);
-            }
-            if met & 32 != 0 {
-                case = case.with("work", 95);
-            }
-            cases.push(case);
-        }
+    for operation in operations() {
+        cases.extend((0..64).map(|met| meeting(operation.clone(), met)));
     }
+}
+
+/// An operation's case on the small plate that meets the conditions 1 to 6
+/// whose bits are set.
+pub fn meeting(begun: Case<'static>, met: u32) -> Case<'static> {
+    let places = if met & 16 != 0 { 3 } else { 30 };
+    let mut case = small(begun, 8, 3, places);
+    if met & 1 != 0 {
+        case = case.with("connectivity", 6);
+    }
+    if met & 2 != 0 {
+        case = case.with("height", 0);
+    }
+    if met & 4 != 0 {
+        case = case.on(&Plate::small().greys[..11]);
+    }
+    if met & 8 != 0 {
+        case = case.with("limit", 0);
+    }
+    if met & 32 != 0 {
+        case = case.with("work", 95);
+    }
+    case
 }
 
 /// Patches of about 65,536 pixels at limits about 65,536.
@@ -246,7 +252,7 @@ fn large(cases: &mut Vec<Case>) {
         let plate = Plate::new(256, 257, |p| if p < patch { 200 } else { 10 });
         let n = plate.pixels();
         for limit in [1, 255, 256, 65_535, 65_536, 65_537] {
-            cases.push(plate.cleaning("open", 4, limit));
+            cases.push(plate.limited(cleaning(LIGHT), 4, limit));
         }
         let (nodes, record) = plate.described(8);
         cases.push(with_columns(plate.case("nodes", 8), nodes));

@@ -18,9 +18,8 @@ fn answers(text: &str, name: &str) -> BTreeSet<u32> {
 #[test]
 fn every_refusal_occurs() {
     let text = vectors_text(&cases_text());
-    let expected: [(&str, &[u32]); 12] = [
-        ("open", &[0, 1, 2, 3, 4, 5, 6]),
-        ("close", &[0, 1, 2, 3, 4, 5, 6]),
+    let expected: [(&str, &[u32]); 11] = [
+        ("clean", &[0, 1, 2, 3, 4, 5, 6, 26]),
         ("maxima", &[0, 1, 2, 3, 5, 6]),
         ("nodes", &[0, 1, 2, 3, 5, 6]),
         ("entries", &[0, 1, 2, 3, 5, 6]),
@@ -42,11 +41,24 @@ fn every_refusal_occurs() {
 }
 
 #[test]
+fn every_refusal_of_cleaning_occurs_on_both_sides() {
+    let cases = cases_text();
+    let sides = [(LIGHT, 0..=6), (DARK, 0..=6)];
+    let neither = [0, 3, u32::MAX].map(|side| (side, 26..=26));
+    for (side, numbers) in sides.into_iter().chain(neither) {
+        let begun = format!("clean side {side} ");
+        let lines = cases.lines().filter(|line| line.starts_with(&begun));
+        let chosen = lines.collect::<Vec<_>>().join("\n");
+        assert_eq!(answers(&vectors_text(&chosen), "clean"), numbers.collect());
+    }
+}
+
+#[test]
 fn a_line_spells_its_case() {
     for line in cases_text().lines() {
         assert_eq!(Case::of(line).line(), format!("{line}\n"));
     }
-    let case = Case::of("open width 7 bytes 1*3 65535 marker 2 2*2");
+    let case = Case::of("clean width 7 bytes 1*3 65535 marker 2 2*2");
     assert_eq!((case.number("width"), case.number("height")), (7, 0));
     assert_eq!(case.list("bytes"), [1, 1, 1, 65_535]);
     assert_eq!(case.list("marker"), [2; 3]);
@@ -91,12 +103,12 @@ const SMALL_FIELDS: &str = "4 3 4*2 10 12 1 20 2 1 20 1 3 80 1 0*5 2 1 0*4 3";
 fn the_specifications_examples() {
     let plate = "width 4 height 3 connectivity 4 work 98";
     for limit in [0, 13] {
-        let case = format!("open {plate} limit {limit} out 13 {SMALL_GREYS}");
-        holds(&case, "open 4 | 170*13 | 7*98");
+        let case = format!("clean side 1 {plate} limit {limit} out 13 {SMALL_GREYS}");
+        holds(&case, "clean 4 | 170*13 | 7*98");
     }
     holds(
-        "open width 1 height 1 connectivity 4 work 10 limit 1 out 2 bytes 7",
-        "open 0 | 7 170 | 0*8 7*2",
+        "clean side 1 width 1 height 1 connectivity 4 work 10 limit 1 out 2 bytes 7",
+        "clean 0 | 7 170 | 0*8 7*2",
     );
     holds(
         &format!("write {plate} out 27 {SMALL_GREYS}"),
@@ -106,6 +118,19 @@ fn the_specifications_examples() {
     holds(
         &format!("read work 97 out 12 bytes 132 0{}", &SMALL_FIELDS[1..]),
         "read 21 0 0 0 | 170*12 | 7*97",
+    );
+}
+
+#[test]
+fn a_plate_on_the_light_side_and_its_negative_on_the_dark_side() {
+    let fields = "width 4 height 3 connectivity 4 work 98 limit 3 out 13";
+    holds(
+        &format!("clean side 1 {fields} bytes 0*2 9*2 0 9*2 0 9 0*2 9"),
+        "clean 0 | 0*2 9*2 0 9*2 0*5 170 | 0*96 7*2",
+    );
+    holds(
+        &format!("clean side 2 {fields} bytes 255*2 246*2 255 246*2 255 246 255*2 246"),
+        "clean 0 | 255*2 246*2 255 246*2 255*5 170 | 0*96 7*2",
     );
 }
 

@@ -13,26 +13,27 @@ fn tens_except(others: &[(usize, u8)]) -> Vec<u8> {
 }
 
 #[test]
-fn opening_with_connectivity_4() {
-    assert_eq!(opened(&SMALL, 4, 3, 4, 1), SMALL);
-    assert_eq!(opened(&SMALL, 4, 3, 4, 2), tens_except(&[(5, 30), (6, 30)]));
-    assert_eq!(opened(&SMALL, 4, 3, 4, 3), tens_except(&[]));
-    assert_eq!(opened(&SMALL, 4, 3, 4, 12), tens_except(&[]));
+fn light_cleaning_with_connectivity_4() {
+    assert_eq!(cleaned(LIGHT, &SMALL, 4, 3, 4, 1), SMALL);
+    let two = tens_except(&[(5, 30), (6, 30)]);
+    assert_eq!(cleaned(LIGHT, &SMALL, 4, 3, 4, 2), two);
+    assert_eq!(cleaned(LIGHT, &SMALL, 4, 3, 4, 3), tens_except(&[]));
+    assert_eq!(cleaned(LIGHT, &SMALL, 4, 3, 4, 12), tens_except(&[]));
 }
 
 #[test]
-fn opening_with_connectivity_8() {
+fn light_cleaning_with_connectivity_8() {
     let three = tens_except(&[(5, 30), (6, 30), (11, 30)]);
-    assert_eq!(opened(&SMALL, 4, 3, 8, 2), three);
-    assert_eq!(opened(&SMALL, 4, 3, 8, 3), three);
-    assert_eq!(opened(&SMALL, 4, 3, 8, 4), tens_except(&[]));
+    assert_eq!(cleaned(LIGHT, &SMALL, 4, 3, 8, 2), three);
+    assert_eq!(cleaned(LIGHT, &SMALL, 4, 3, 8, 3), three);
+    assert_eq!(cleaned(LIGHT, &SMALL, 4, 3, 8, 4), tens_except(&[]));
 }
 
 #[test]
-fn closing_with_connectivity_4() {
-    assert_eq!(closed(&SMALL, 4, 3, 4, 9), SMALL);
+fn dark_cleaning_with_connectivity_4() {
+    assert_eq!(cleaned(DARK, &SMALL, 4, 3, 4, 9), SMALL);
     let raised: Vec<u8> = SMALL.iter().map(|&grey| grey.max(30)).collect();
-    assert_eq!(closed(&SMALL, 4, 3, 4, 10), raised);
+    assert_eq!(cleaned(DARK, &SMALL, 4, 3, 4, 10), raised);
 }
 
 #[test]
@@ -42,11 +43,11 @@ fn ink_of_the_ends() {
 }
 
 #[test]
-fn cuts_give_the_opened_plates() {
+fn cuts_give_the_plates_cleaned_of_light_patches() {
     for limit in 1..=12 {
         let (answer, cut) = cut_back(&SMALL_RECORD, limit, 12);
         assert_eq!(answer, head(4, 3, 4));
-        assert_eq!(cut, opened(&SMALL, 4, 3, 4, limit));
+        assert_eq!(cut, cleaned(LIGHT, &SMALL, 4, 3, 4, limit));
     }
 }
 
@@ -54,9 +55,10 @@ fn cuts_give_the_opened_plates() {
 fn limits_0_and_13_give_4() {
     for limit in [0, 13] {
         let (mut out, mut work) = ([BYTE; 12], work_of(96));
-        let opening = area_open(&SMALL, 4, 3, 4, limit, &mut out, &mut work);
-        let closing = area_close(&SMALL, 4, 3, 4, limit, &mut out, &mut work);
-        assert_eq!((opening.refusal, closing.refusal), (4, 4));
+        for side in SIDES {
+            let cleaning = clean(side, &SMALL, 4, 3, 4, limit, &mut out, &mut work);
+            assert_eq!(cleaning.refusal, 4);
+        }
         assert!(work_untouched(&work));
         let cutting = cut_record(&SMALL_RECORD, limit, &mut out, &mut work);
         assert_eq!(cutting.refusal, 4);
@@ -128,8 +130,9 @@ fn a_record_of_132_and_0_gives_21() {
 #[test]
 fn one_pixel_of_grey_7() {
     for connectivity in [4, 8] {
-        assert_eq!(opened(&[7], 1, 1, connectivity, 1), [7]);
-        assert_eq!(closed(&[7], 1, 1, connectivity, 1), [7]);
+        for side in SIDES {
+            assert_eq!(cleaned(side, &[7], 1, 1, connectivity, 1), [7]);
+        }
         assert_eq!(marked(&[7], 1, 1, connectivity), [1]);
         let record = written(&[7], 1, 1, connectivity);
         assert_eq!(record, [1, 1, connectivity as u8, 1, 7, 1, 0]);

@@ -33,9 +33,9 @@ impl Lcg {
     }
 
     /// A random plate with its width and height, at most this many of each.
-    pub fn plate(&mut self, sides: u32) -> (Vec<u8>, u32, u32) {
-        let width = 1 + self.below(sides);
-        let height = 1 + self.below(sides);
+    pub fn plate(&mut self, most: u32) -> (Vec<u8>, u32, u32) {
+        let width = 1 + self.below(most);
+        let height = 1 + self.below(most);
         let palette: Vec<u8> = (0..1 + self.below(6)).map(|_| self.grey()).collect();
         let plate = (0..width * height)
             .map(|_| palette[self.below(palette.len() as u32) as usize])
@@ -73,21 +73,13 @@ fn ends_untouched(out: &[u8], length: usize) -> bool {
     out[length..].iter().all(|&byte| byte == BYTE)
 }
 
-/// Opens with ample buffers, checks the buffers, returns the plate.
-pub fn opened(plate: &[u8], width: u32, height: u32, connectivity: u32, limit: u32) -> Vec<u8> {
-    cleaned(area_open, plate, (width, height, connectivity), limit)
-}
-
-/// Closes with ample buffers, checks the buffers, returns the plate.
-pub fn closed(plate: &[u8], width: u32, height: u32, connectivity: u32, limit: u32) -> Vec<u8> {
-    cleaned(area_close, plate, (width, height, connectivity), limit)
-}
-
-fn cleaned(clean: Cleaning, plate: &[u8], (w, h, c): (u32, u32, u32), limit: u32) -> Vec<u8> {
+/// Cleans with ample buffers, checks the buffers, returns the plate.
+pub fn cleaned(side: u32, plate: &[u8], w: u32, h: u32, c: u32, limit: u32) -> Vec<u8> {
     let n = plate.len();
     let mut out = vec![BYTE; n + EXCESS];
     let mut work = work_of(8 * n + EXCESS);
-    assert_eq!(clean(plate, w, h, c, limit, &mut out, &mut work).refusal, 0);
+    let done = clean(side, plate, w, h, c, limit, &mut out, &mut work);
+    assert_eq!(done.refusal, 0);
     assert!(ends_untouched(&out, n) && work_zeroed(&work, n));
     out.truncate(n);
     out

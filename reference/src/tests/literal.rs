@@ -46,6 +46,10 @@ fn least(plate: &[u8], set: &[usize]) -> u8 {
     set.iter().map(|&p| plate[p]).min().unwrap()
 }
 
+fn greatest(plate: &[u8], set: &[usize]) -> u8 {
+    set.iter().map(|&p| plate[p]).max().unwrap()
+}
+
 /// Runs a check on some tiny plates with all their connected sets.
 fn on_tiny_plates(check: fn(&Grid, &[u8], &[Vec<usize>])) {
     let mut random = Lcg(20);
@@ -63,32 +67,32 @@ fn on_tiny_plates(check: fn(&Grid, &[u8], &[Vec<usize>])) {
     }
 }
 
-#[test]
-fn the_opened_value_goes_by_connected_sets() {
-    on_tiny_plates(|grid, plate, sets| {
-        for limit in 1..=grid.pixels() {
-            let mut best = vec![0; grid.pixels()];
-            for set in sets.iter().filter(|set| set.len() >= limit) {
-                let t = least(plate, set);
-                set.iter().for_each(|&p| best[p] = t.max(best[p]));
-            }
-            let (w, h) = (grid.width as u32, grid.height as u32);
-            assert_eq!(opened(plate, w, h, grid.connectivity, limit as u32), best);
-        }
-    });
+/// At each pixel the best value among the sets that contain it and have at
+/// least the limit's pixels.
+fn best_values(
+    (pixels, limit): (usize, usize),
+    sets: &[Vec<usize>],
+    value: impl Fn(&[usize]) -> u8,
+    best: fn(u8, u8) -> u8,
+) -> Vec<u8> {
+    let best_at = |p| {
+        let qualified = sets.iter().filter(|set| set.len() >= limit);
+        let containing = qualified.filter(|set| set.contains(&p));
+        containing.map(|set| value(set)).reduce(best).unwrap()
+    };
+    (0..pixels).map(best_at).collect()
 }
 
 #[test]
-fn the_closed_value_goes_by_connected_sets() {
+fn cleaned_values_go_by_connected_sets() {
     on_tiny_plates(|grid, plate, sets| {
-        for limit in 1..=grid.pixels() {
-            let mut best = vec![255; grid.pixels()];
-            for set in sets.iter().filter(|set| set.len() >= limit) {
-                let t = set.iter().map(|&p| plate[p]).max().unwrap();
-                set.iter().for_each(|&p| best[p] = t.min(best[p]));
-            }
-            let (w, h) = (grid.width as u32, grid.height as u32);
-            assert_eq!(closed(plate, w, h, grid.connectivity, limit as u32), best);
+        let (w, h, c) = (grid.width as u32, grid.height as u32, grid.connectivity);
+        let n = grid.pixels();
+        for limit in 1..=n {
+            let light = best_values((n, limit), sets, |set| least(plate, set), u8::max);
+            assert_eq!(cleaned(LIGHT, plate, w, h, c, limit as u32), light);
+            let dark = best_values((n, limit), sets, |set| greatest(plate, set), u8::min);
+            assert_eq!(cleaned(DARK, plate, w, h, c, limit as u32), dark);
         }
     });
 }

@@ -4,8 +4,9 @@
 use super::helpers::*;
 use crate::*;
 
-#[test]
-fn opening_and_closing_in_order() {
+/// Cleaning on a side, the later conditions mended one after another: the
+/// number is `refusal` of the one that the later conditions give.
+fn check_cleaning(side: u32, refusal: fn(u32) -> u32) {
     let small = SMALL.to_vec();
     let long = vec![0; 13];
     let cases = [
@@ -19,11 +20,24 @@ fn opening_and_closing_in_order() {
     ];
     for (plate, w, h, c, limit, places, entries, number) in cases {
         let (mut out, mut work) = (vec![BYTE; places], work_of(entries));
-        let opening = area_open(plate, w, h, c, limit, &mut out, &mut work);
-        let (mut out, mut work) = (vec![BYTE; places], work_of(entries));
-        let closing = area_close(plate, w, h, c, limit, &mut out, &mut work);
-        assert_eq!((opening.refusal, closing.refusal), (number, number));
-        assert_eq!(work_untouched(&work), number != 0);
+        let cleaning = clean(side, plate, w, h, c, limit, &mut out, &mut work);
+        assert_eq!(cleaning.refusal, refusal(number));
+        let untouched = work_untouched(&work) && out.iter().all(|&byte| byte == BYTE);
+        assert_eq!(untouched, cleaning.refusal != 0);
+    }
+}
+
+#[test]
+fn cleaning_in_order() {
+    for side in SIDES {
+        check_cleaning(side, |number| number);
+    }
+}
+
+#[test]
+fn the_side_comes_before_every_other_condition() {
+    for side in [0, 3, u32::MAX] {
+        check_cleaning(side, |_| 26);
     }
 }
 

@@ -2,6 +2,7 @@
 //! with the properties of the cuts and of the list checked by brute force.
 
 use super::helpers::*;
+use crate::cleaning::negative;
 use crate::maxima::maxima_of;
 use crate::*;
 
@@ -63,8 +64,8 @@ fn cuts_and_lists_of_random_plates() {
     }
 }
 
-/// Cuts at every limit, each held against the plate and against opening;
-/// then the list held against the cuts.
+/// Cuts at every limit, each held against the plate and against cleaning on
+/// the light side; then the list held against the cuts.
 fn check_cuts_and_list(plate: &[u8], width: u32, height: u32, connectivity: u32) {
     let n = plate.len();
     let grid = Grid::new(width, height, connectivity);
@@ -75,7 +76,8 @@ fn check_cuts_and_list(plate: &[u8], width: u32, height: u32, connectivity: u32)
             assert_eq!(answer, head(width, height, connectivity));
             assert!(nowhere_lighter(&cut, plate));
             assert!(maxima_are_large(&grid, &cut, limit));
-            assert_eq!(cut, opened(plate, width, height, connectivity, limit));
+            let light = cleaned(LIGHT, plate, width, height, connectivity, limit);
+            assert_eq!(cut, light);
             cut
         })
         .collect();
@@ -281,5 +283,20 @@ fn a_header_in_the_middle_is_the_header_alone() {
                 ..alone
             }
         );
+    }
+}
+
+#[test]
+fn light_on_a_plate_and_dark_on_its_negative_are_negatives() {
+    let mut random = Lcg(39);
+    for round in 0..600 {
+        let (plate, width, height) = random.plate(8);
+        let connectivity = 4 + 4 * (round % 2);
+        let limit = 1 + random.below(plate.len() as u32);
+        let negated = negative(&plate);
+        let light = cleaned(LIGHT, &plate, width, height, connectivity, limit);
+        let dark = cleaned(DARK, &negated, width, height, connectivity, limit);
+        assert_eq!(light, negative(&dark));
+        assert_eq!(dark, negative(&light));
     }
 }

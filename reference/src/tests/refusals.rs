@@ -27,13 +27,12 @@ fn the_grid_refuses_for_every_operation_on_a_plate() {
         let plate = vec![10; length];
         let (mut out, mut work) = (vec![BYTE; 200], work_of(400));
         let mut columns = Columns::of([20; 4]);
-        let opening = area_open(&plate, w, h, c, 1, &mut out, &mut work);
-        let closing = area_close(&plate, w, h, c, 1, &mut out, &mut work);
+        let light = clean(LIGHT, &plate, w, h, c, 1, &mut out, &mut work);
+        let dark = clean(DARK, &plate, w, h, c, 1, &mut out, &mut work);
         let marking = regional_maxima(&plate, w, h, c, &mut out, &mut work);
         let listing = node_list(&plate, w, h, c, columns.lent(), &mut work);
         let writing = write_record(&plate, w, h, c, &mut out, &mut work);
-        assert_eq!(opening.refusal, number);
-        assert_eq!(closing.refusal, number);
+        assert_eq!((light.refusal, dark.refusal), (number, number));
         assert_eq!(marking.refusal, number);
         assert_eq!((listing.refusal, listing.count), (number, 0));
         assert_eq!((writing.refusal, writing.length), (number, 0));
@@ -49,21 +48,31 @@ fn the_greatest_grids_are_within() {
     assert!(!grid::is_size(4_096, 4_097) && !grid::is_size(65_536, 256));
 }
 
+/// Cleans the small plate with buffers of these lengths and checks that it
+/// is refused by this number, the buffers untouched.
+fn cleaning_refuses(side: u32, limit: u32, places: usize, entries: usize, number: u32) {
+    let (mut out, mut work) = (vec![BYTE; places], work_of(entries));
+    let cleaning = clean(side, &SMALL, 4, 3, 4, limit, &mut out, &mut work);
+    assert_eq!(cleaning.refusal, number);
+    assert_eq!(out, vec![BYTE; places]);
+    assert!(work_untouched(&work));
+}
+
 #[test]
-fn opening_and_closing_refuse_4_5_and_6() {
-    let cases = [
-        (0, 12, 96, 4),
-        (13, 12, 96, 4),
-        (1, 11, 96, 5),
-        (12, 12, 95, 6),
-    ];
-    for (limit, places, entries, number) in cases {
-        let (mut out, mut work) = (vec![BYTE; places], work_of(entries));
-        let opening = area_open(&SMALL, 4, 3, 4, limit, &mut out, &mut work);
-        let closing = area_close(&SMALL, 4, 3, 4, limit, &mut out, &mut work);
-        assert_eq!((opening.refusal, closing.refusal), (number, number));
-        assert_eq!(out, vec![BYTE; places]);
-        assert!(work_untouched(&work));
+fn cleaning_refuses_4_5_and_6() {
+    for side in SIDES {
+        cleaning_refuses(side, 0, 12, 96, 4);
+        cleaning_refuses(side, 13, 12, 96, 4);
+        cleaning_refuses(side, 1, 11, 96, 5);
+        cleaning_refuses(side, 12, 12, 95, 6);
+    }
+}
+
+#[test]
+fn cleaning_refuses_other_sides_by_26() {
+    for side in [0, 3, 4, 257, 65_538, u32::MAX] {
+        cleaning_refuses(side, 2, 12, 96, 26);
+        cleaning_refuses(side, 0, 11, 95, 26);
     }
 }
 

@@ -11,9 +11,10 @@ fn a_patch_of_65536_pixels_stays_to_its_own_limit() {
         .map(|p| if inside(p) { 200 } else { 9 })
         .collect();
     for limit in [1, 65_535, 65_536] {
-        assert_eq!(opened(&plate, width, height, 4, limit), plate);
+        assert_eq!(cleaned(LIGHT, &plate, width, height, 4, limit), plate);
     }
-    assert_eq!(opened(&plate, width, height, 4, 65_537), vec![9; 258 * 258]);
+    let sunk = cleaned(LIGHT, &plate, width, height, 4, 65_537);
+    assert_eq!(sunk, vec![9; 258 * 258]);
     let record = written(&plate, width, height, 4);
     assert_eq!(cut_back(&record, 65_536, plate.len()).1, plate);
     let (answer, counts, losses) = sized(&record, plate.len());
@@ -25,8 +26,8 @@ fn a_patch_of_65536_pixels_stays_to_its_own_limit() {
 #[test]
 fn a_maximum_sinks_until_it_is_large_enough() {
     let stairs = [10, 20, 30, 40, 50];
-    assert_eq!(opened(&stairs, 5, 1, 4, 2), [10, 20, 30, 40, 40]);
-    assert_eq!(opened(&stairs, 5, 1, 4, 4), [10, 20, 20, 20, 20]);
+    assert_eq!(cleaned(LIGHT, &stairs, 5, 1, 4, 2), [10, 20, 30, 40, 40]);
+    assert_eq!(cleaned(LIGHT, &stairs, 5, 1, 4, 4), [10, 20, 20, 20, 20]);
 }
 
 #[test]
@@ -37,7 +38,7 @@ fn nothing_wraps_round_an_edge() {
         assert!(!touching(3, connectivity, 0, 2));
     }
     let plate = [1, 1, 9, 9, 1, 1];
-    assert_eq!(opened(&plate, 3, 2, 8, 2), [1; 6]);
+    assert_eq!(cleaned(LIGHT, &plate, 3, 2, 8, 2), [1; 6]);
 }
 
 #[test]
