@@ -2,13 +2,13 @@
 use mathlib.Core.Path.{_≡_, refl, sym, ap, _∙_}
 use mathlib.Core.Logic.{_⊎_, inl, inr}
 use mathlib.Core.List.{List}
-use Prim.Native.Nat.{ℕ, _*_, _≤_}
+use Prim.Native.Nat.{ℕ, _-_, _*_, _≤_}
 use native.Mathlib.Omega.{arith}
-use lib.ListN.{length, take}
+use lib.ListN.{length, length-map, take}
 use Rattle.meaning.specs.Answers.{cleanRefusal}
 use Rattle.meaning.specs.Opening.{cleaned, closed, darkSide, lightSide, opened, sideFits}
-use Rattle.meaning.specs.Plate.{negative}
-use Rattle.theorems.proofs.Plates.{closed-length, closed-negative, negative-length, negative-plate, negative-twice, opened-length, opened-plate}
+use Rattle.meaning.specs.Plate.{greatestGrey, negative}
+use Rattle.theorems.proofs.Plates.{closed-length, closed-negative, negative-twice, opened-length, opened-plate}
 use Rattle.theorems.proofs.Theorems.{closed-is-least, opened-is-greatest}
 use Rattle.plate_refusals.proofs.Refusals.{Cleanable, clean-none}
 use Rattle.plate_filter.specs.Operations.{Cleaned}
@@ -17,7 +17,7 @@ use Rattle.demands.proofs.Demand3.{over-nth, over-take}
 
 -- ---- one plate, cleaned on a side
 
-module _ {side k w h limit : ℕ} {f out out′ work work′ : List ℕ} {r : ℕ} (a : Cleaned side k w h limit f out out′ work work′ r) (z : r ≡ 0) where
+module _ (side limit : ℕ) {k w h : ℕ} {f out out′ work work′ : List ℕ} {r : ℕ} (a : Cleaned side k w h limit f out out′ work work′ r) (z : r ≡ 0) where
   cleanable : Cleanable side k w h limit (length f) (length out) (length work)
   cleanable = clean-none side k w h limit (length f) (length out) (length work) (sym (a .number) ∙ z)
 
@@ -34,31 +34,33 @@ dark-closes : (k w limit : ℕ) (f : List ℕ) → cleaned darkSide k w limit f 
 unfolding cleaned
 dark-closes k w limit f = refl
 
-module _ {k w h limit : ℕ} {f out out′ work work′ : List ℕ} {r : ℕ} where
+module _ (limit : ℕ) {k w h : ℕ} {f out out′ work work′ : List ℕ} {r : ℕ} where
   light-holds : Cleaned lightSide k w h limit f out out′ work work′ r → r ≡ 0 → HoldsOpened k w limit f out′
   light-holds a z t p l =
       let plate = a .accepted z in
       rw (a .output, z, light-opens k w limit f, over-nth (opened k w limit f) out p (omega (arith, opened-length plate limit)))
-      (opened-is-greatest plate limit t p (limit-fits a z) l)
+      (opened-is-greatest plate limit t p (limit-fits lightSide limit a z) l)
 
   dark-holds : Cleaned darkSide k w h limit f out out′ work work′ r → r ≡ 0 → HoldsClosed k w limit f out′
   dark-holds a z t p l =
       let plate = a .accepted z in
       rw (a .output, z, dark-closes k w limit f, over-nth (closed k w limit f) out p (omega (arith, closed-length plate limit)))
-      (closed-is-least plate limit t p (limit-fits a z) l)
+      (closed-is-least plate limit t p (limit-fits darkSide limit a z) l)
 
-  side-holds : {side : ℕ} → Cleaned side k w h limit f out out′ work work′ r → r ≡ 0 → (side ≡ lightSide) ⊎ (side ≡ darkSide)
+  side-holds : (side : ℕ) → Cleaned side k w h limit f out out′ work work′ r → r ≡ 0 → (side ≡ lightSide) ⊎ (side ≡ darkSide)
       → HoldsCleaned side k w limit f out′
-  side-holds a z (inl e) = inl (e, light-holds (rw e at a) z)
-  side-holds a z (inr e) = inr (e, dark-holds (rw e at a) z)
+  side-holds side a z (inl e) = inl (e, light-holds (rw e at a) z)
+  side-holds side a z (inr e) = inr (e, dark-holds (rw e at a) z)
 
 -- ---- light on a plate f, dark on its negative
 
-module _ {k w h limit : ℕ} {f out out′ work work′ lent lent′ space space′ : List ℕ} {r r′ : ℕ}
+module _ (limit : ℕ) {k w h : ℕ} {f out out′ work work′ lent lent′ space space′ : List ℕ} {r r′ : ℕ}
     (a : Cleaned lightSide k w h limit f out out′ work work′ r) (b : Cleaned darkSide k w h limit (negative f) lent lent′ space space′ r′) where
   alike : length lent ≡ length out → length space ≡ length work → r′ ≡ r
   unfolding cleanRefusal negative sideFits
-  alike x y = b .number ∙ rw (x, y) (sym (a .number))
+  alike x y =
+      let n : length (negative f) ≡ length f = length-map f (λ (g : ℕ). greatestGrey - g) in
+      b .number ∙ rw (x, y, n) (sym (a .number))
 
   module _ (z : r ≡ 0) (z′ : r′ ≡ 0) where
     light-plate : take (w * h) out′ ≡ opened k w limit f
@@ -78,12 +80,12 @@ module _ {k w h limit : ℕ} {f out out′ work work′ lent lent′ space space
         let e : take (w * h) lent′ ≡ negative (take (w * h) out′) =
         dark-plate ∙ closed-negative plate limit ∙ ap negative (sym light-plate) in
         let back : take (w * h) out′ ≡ negative (negative (take (w * h) out′)) =
-        rw light-plate (sym (negative-twice (opened-plate plate limit (limit-fits a z)))) in
+        rw light-plate (sym (negative-twice (opened-plate plate limit (limit-fits lightSide limit a z)))) in
         (e, back ∙ ap negative (sym e))
 
 pub cleaning : CleaningClaim
 cleaning = record {
-  cleaning = λ side k w h limit f out out′ work work′ r a z. side-holds a z (cleanable a z .side-is);
-  refused-alike = λ k w h limit f out out′ work work′ lent lent′ space space′ r r′ a b x y. alike a b x y;
-  negatives = λ k w h limit f out out′ work work′ lent lent′ space space′ r r′ a b z z′. each-other a b z z′;
+  cleaning = λ side k w h limit f out out′ work work′ r a z. side-holds limit side a z (cleanable side limit a z .side-is);
+  refused-alike = λ k w h limit f out out′ work work′ lent lent′ space space′ r r′ a b x y. alike limit a b x y;
+  negatives = λ k w h limit f out out′ work work′ lent lent′ space space′ r r′ a z b z′. each-other limit a b z z′;
 }

@@ -36,5 +36,5 @@ pub record CleaningClaim : Type 0 where
       → length lent ≡ length out → length space ≡ length work → r′ ≡ r
   -- .. and give plates that are negatives of each other
   pub negatives : (k w h limit : ℕ) (f out out′ work work′ lent lent′ space space′ : List ℕ) (r r′ : ℕ)
-      → Cleaned lightSide k w h limit f out out′ work work′ r → Cleaned darkSide k w h limit (negative f) lent lent′ space space′ r′
-      → r ≡ 0 → r′ ≡ 0 → Negatives (take (w * h) out′) (take (w * h) lent′)
+      → Cleaned lightSide k w h limit f out out′ work work′ r → r ≡ 0 → Cleaned darkSide k w h limit (negative f) lent lent′ space space′ r′ → r′ ≡ 0
+      → Negatives (take (w * h) out′) (take (w * h) lent′)
