@@ -50,8 +50,8 @@ demo: all
 	rm -rf $(DEMO)
 	mkdir -p $(DEMO)
 	bin/livukoe-demo relief $(DEMO)/before.pgm
-	bin/livukoe open --limit $(DEMO_LIMIT) $(DEMO)/before.pgm $(DEMO)/opened.pgm
-	bin/livukoe close --limit $(DEMO_LIMIT) $(DEMO)/opened.pgm $(DEMO)/after.pgm
+	bin/livukoe clean --side light --limit $(DEMO_LIMIT) $(DEMO)/before.pgm $(DEMO)/between.pgm
+	bin/livukoe clean --side dark --limit $(DEMO_LIMIT) $(DEMO)/between.pgm $(DEMO)/after.pgm
 	bin/livukoe-demo png $(DEMO)/before.pgm docs/before.png
 	bin/livukoe-demo png $(DEMO)/after.pgm docs/after.png
 	@echo "The map with dust on it is docs/before.png, the cleaned one docs/after.png;"

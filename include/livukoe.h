@@ -5,7 +5,7 @@
  * (crates/livukoe/src/lib.rt).
  *
  * A plate is width x height greys, one byte each, row by row from the top left. Width and height are 1 to 32768, their
- * product, the pixels, at most 16777216. Connectivity is 4 (shared side) or 8 (shared side or corner).
+ * product, the pixels, at most 16777216. Connectivity is 4 (left, right, above, below) or 8 (those and the corners).
  *
  * Every buffer is a pointer and the number of its elements. The caller answers for this, and for nothing else: each
  * pointer is not null (also where the number is 0), aligned for its type, and valid for that many elements; no buffer
@@ -25,8 +25,7 @@
  * the library as it is built (x86-64, -O3), on plates, files and records that were chosen to make it deep
  * (host/tests/c/stack.c). In bytes, rounded up to whole 1024:
  *
- *     livukoe_area_open        9216
- *     livukoe_area_close       9216
+ *     livukoe_clean            9216
  *     livukoe_regional_maxima  9216
  *     livukoe_node_list        9216
  *     livukoe_node_entries     9216
@@ -59,6 +58,12 @@ extern "C" {
  * step to its parent (4), its rise (2) and its area (4); each pixel its own node (4). */
 #define LIVUKOE_RECORD_BYTES(pixels) (14 * (size_t)(pixels) + 7)
 
+/* Which patches are cleaned away. */
+enum livukoe_side {
+    LIVUKOE_SIDE_LIGHT = 1, /* light patches */
+    LIVUKOE_SIDE_DARK = 2   /* dark patches */
+};
+
 /* Refusals. Each function names those that it gives, in the order in which it looks. */
 enum livukoe_refusal {
     LIVUKOE_CONNECTIVITY = 1,   /* the connectivity is neither 4 nor 8 */
@@ -76,7 +81,8 @@ enum livukoe_refusal {
     LIVUKOE_FIELD_FORM = 21,    /* a field is not in its shortest form, or is 4294967296 or more */
     LIVUKOE_FIELD_RANGE = 22,   /* a field is outside its range */
     LIVUKOE_RECORD_LONG = 23,   /* bytes are left over after the last field */
-    LIVUKOE_NOT_CANONICAL = 24  /* the bytes differ from the record of the plate that they spell */
+    LIVUKOE_NOT_CANONICAL = 24, /* the bytes differ from the record of the plate that they spell */
+    LIVUKOE_SIDE = 26           /* the side is neither 1 (light) nor 2 (dark) */
 };
 
 /* The text of a refusal. */
@@ -100,20 +106,18 @@ static inline const char *livukoe_refusal_text(uint32_t refusal)
     case LIVUKOE_FIELD_RANGE: return "a field of the record is outside its range";
     case LIVUKOE_RECORD_LONG: return "the record has bytes behind its last field";
     case LIVUKOE_NOT_CANONICAL: return "the record is not the one that its plate has";
+    case LIVUKOE_SIDE: return "the side is neither 1 (light) nor 2 (dark)";
     default: return "no refusal has this number";
     }
 }
 
-/* Area opening: each pixel gets the greatest t for which a connected set of at least `limit` pixels contains it, with
- * no grey below t, so that light patches of fewer pixels go. Refusals 1, 2, 3, 4, 5, 6. Returns the refusal. */
-uint32_t livukoe_area_open(
-    const uint8_t *image, size_t image_length, uint32_t width, uint32_t height, uint32_t connectivity, uint32_t limit,
-    uint8_t *out, size_t out_length, uint32_t *work, size_t work_length);
-
-/* Area closing: the same for dark patches; 255 minus the opening of 255 minus each grey. Refusals as for opening. */
-uint32_t livukoe_area_close(
-    const uint8_t *image, size_t image_length, uint32_t width, uint32_t height, uint32_t connectivity, uint32_t limit,
-    uint8_t *out, size_t out_length, uint32_t *work, size_t work_length);
+/* Cleans a plate on a side (enum livukoe_side). On the light side each pixel gets the greatest t for which a connected
+ * set of at least `limit` pixels contains it, with no grey below t, so that light patches of fewer pixels go. On the
+ * dark side it gets 255 minus the same of 255 minus each grey, so that dark patches go. Refusals 26, 1, 2, 3, 4, 5, 6.
+ * Returns the refusal. */
+uint32_t livukoe_clean(
+    uint32_t side, const uint8_t *image, size_t image_length, uint32_t width, uint32_t height, uint32_t connectivity,
+    uint32_t limit, uint8_t *out, size_t out_length, uint32_t *work, size_t work_length);
 
 /* Regional maxima: 1 inside a greatest connected set of one grey whose outside neighbours are all darker, 0 elsewhere.
  * Refusals 1, 2, 3, 5, 6. Returns the refusal. */
@@ -181,8 +185,8 @@ struct livukoe_record_head {
 struct livukoe_record_head livukoe_read_record(
     const uint8_t *bytes, size_t bytes_length, uint8_t *out, size_t out_length, uint32_t *work, size_t work_length);
 
-/* Cuts a record at a limit: `out` gets the area opening of its plate, under its connectivity. Refusals as for reading
- * up to 24, then 4, 5. */
+/* Cuts a record at a limit: `out` gets its plate, cleaned on the light side under its connectivity. Refusals as for
+ * reading up to 24, then 4, 5. */
 struct livukoe_record_head livukoe_cut_record(
     const uint8_t *bytes, size_t bytes_length, uint32_t limit,
     uint8_t *out, size_t out_length, uint32_t *work, size_t work_length);

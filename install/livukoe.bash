@@ -4,7 +4,7 @@
 _livukoe_options()
 {
     case $1 in
-    open | close) echo --limit --connectivity --force ;;
+    clean) echo --side --limit --connectivity --force ;;
     maxima | record) echo --connectivity --force ;;
     nodes | sizelist) echo --connectivity ;;
     cut) echo --limit --force ;;
@@ -19,7 +19,9 @@ _livukoe()
     [[ $word == = ]] && word=
     [[ $before == = ]] && before=${COMP_WORDS[COMP_CWORD - 2]}
     if ((COMP_CWORD == 1)); then
-        COMPREPLY=($(compgen -W "open close maxima nodes record plate cut sizelist help version" -- "$word"))
+        COMPREPLY=($(compgen -W "clean maxima nodes record plate cut sizelist help version" -- "$word"))
+    elif [[ $before == --side ]]; then
+        COMPREPLY=($(compgen -W "light dark" -- "$word"))
     elif [[ $before == --connectivity ]]; then
         COMPREPLY=($(compgen -W "4 8" -- "$word"))
     elif [[ $before == --limit ]]; then

@@ -5,7 +5,7 @@ use std::str::FromStr;
 
 use crate::refusal::Refusal;
 
-/// Which pixels touch.
+/// Which pixels touch a pixel.
 ///
 /// ```
 /// use livukoe::{Connectivity, Refusal};
@@ -17,10 +17,10 @@ use crate::refusal::Refusal;
 #[derive(Clone, Copy, Debug, Default, PartialEq, Eq, Hash)]
 #[non_exhaustive]
 pub enum Connectivity {
-    /// Pixels that share a side.
+    /// Those to its left and right, above and below it.
     #[default]
     Four,
-    /// Pixels that share a side or a corner.
+    /// Those, and the pixels at its corners.
     Eight,
 }
 

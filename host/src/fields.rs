@@ -7,7 +7,7 @@ use std::fmt;
 
 use crate::connectivity::Connectivity;
 use crate::refusal::Refusal;
-use crate::{MAX_PIXELS, MAX_SIDE};
+use crate::{MAX_EXTENT, MAX_PIXELS};
 
 /// What a record's first four fields say.
 #[derive(Clone, Copy, Debug, PartialEq, Eq)]
@@ -71,8 +71,8 @@ struct Fields<'a> {
 
 impl Fields<'_> {
     fn head(&mut self) -> Result<Head, Fault> {
-        let width = self.within(1, MAX_SIDE, || "width".into())?;
-        let tallest = MAX_SIDE.min(MAX_PIXELS as u32 / width);
+        let width = self.within(1, MAX_EXTENT, || "width".into())?;
+        let tallest = MAX_EXTENT.min(MAX_PIXELS as u32 / width);
         let height = self.within(1, tallest, || "height".into())?;
         let number = self.next(
             |number| Connectivity::from_number(number).is_some(),

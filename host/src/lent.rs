@@ -9,20 +9,8 @@ mod c {
     use super::{JointHead, Node, NodeCount, PlateHead, RecordHead, RecordLength, SizeHead};
 
     extern "C" {
-        pub fn livukoe_area_open(
-            image: *const u8,
-            image_length: usize,
-            width: u32,
-            height: u32,
-            connectivity: u32,
-            limit: u32,
-            out: *mut u8,
-            out_length: usize,
-            work: *mut u32,
-            work_length: usize,
-        ) -> u32;
-
-        pub fn livukoe_area_close(
+        pub fn livukoe_clean(
+            side: u32,
             image: *const u8,
             image_length: usize,
             width: u32,
@@ -269,14 +257,9 @@ macro_rules! call {
     ($function:expr, $($rest:tt)*) => { call!(@ $function, [] $($rest)*,) };
 }
 
-/// The area opening of a plate at a limit.
-pub fn area_open(image: Image, limit: u32, out: &mut [u8], work: &mut [u32]) -> u32 {
-    call!(c::livukoe_area_open, plate image, limit, write out, write work)
-}
-
-/// The area closing of a plate at a limit.
-pub fn area_close(image: Image, limit: u32, out: &mut [u8], work: &mut [u32]) -> u32 {
-    call!(c::livukoe_area_close, plate image, limit, write out, write work)
+/// Cleans a plate at a limit on a side, 1 for light patches and 2 for dark ones.
+pub fn clean(side: u32, image: Image, limit: u32, out: &mut [u8], work: &mut [u32]) -> u32 {
+    call!(c::livukoe_clean, side, plate image, limit, write out, write work)
 }
 
 /// Marks the regional maxima of a plate: 1 inside one, 0 elsewhere.

@@ -1,9 +1,9 @@
 //! Verified cleaning of grey images.
 //!
-//! A [`Plate`] is a grey image. [`Plate::area_open`] takes away light patches that are smaller than a limit and
-//! [`Plate::area_close`] dark ones; [`Plate::regional_maxima`] marks maxima; [`Plate::nodes`] lists the nodes of the
-//! component tree (max-tree). A [`Record`] is the canonical description of a plate: it can be read back, cut at any
-//! limit and turned into a [`SizeList`].
+//! A [`Plate`] is a grey image. [`Plate::clean`] takes away the patches of a [`Side`], light or dark, that are smaller
+//! than a limit; [`Plate::regional_maxima`] marks maxima; [`Plate::nodes`] lists the nodes of the component tree
+//! (max-tree). A [`Record`] is the canonical description of a plate: it can be read back, cut at any limit and turned
+//! into a [`SizeList`].
 //!
 //! Every answer comes from a function that is proved against its definition. This crate lends those functions buffers
 //! of the right sizes and turns their refusals into [`Refusal`]. It checks nothing a second time, except that a record
@@ -11,10 +11,10 @@
 //! many operations; [`lent`] has the functions over buffers of your own.
 //!
 //! ```
-//! use livukoe::{Connectivity, Plate};
+//! use livukoe::{Connectivity, Plate, Side};
 //!
 //! let plate = Plate::new(4, 3, vec![10, 10, 10, 10, 10, 50, 30, 10, 10, 10, 10, 90]);
-//! let clean = plate.area_open(Connectivity::Four, 2)?;
+//! let clean = plate.clean(Side::Light, Connectivity::Four, 2)?;
 //! assert_eq!(clean.greys(), [10, 10, 10, 10, 10, 30, 30, 10, 10, 10, 10, 10]);
 //! # Ok::<(), livukoe::Refusal>(())
 //! ```
@@ -27,6 +27,7 @@ pub mod pictures;
 mod plate;
 mod record;
 mod refusal;
+mod side;
 mod sizes;
 mod work;
 
@@ -37,11 +38,12 @@ pub use lent::{ink_percentage, Node};
 pub use plate::Plate;
 pub use record::Record;
 pub use refusal::{Refusal, UnknownRefusal};
+pub use side::Side;
 pub use sizes::{Size, SizeList};
 pub use work::{work_space, WorkSpace};
 
 /// The greatest width and height of a plate.
-pub const MAX_SIDE: u32 = 32_768;
+pub const MAX_EXTENT: u32 = 32_768;
 
 /// The greatest number of pixels of a plate.
 pub const MAX_PIXELS: usize = 16_777_216;

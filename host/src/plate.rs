@@ -5,7 +5,7 @@ use crate::lent::{self, Image, Node};
 use crate::record::Record;
 use crate::refusal::Refusal;
 use crate::work::{zeroed_nodes, WorkSpace};
-use crate::{Connectivity, MAX_PIXELS};
+use crate::{Connectivity, Side, MAX_PIXELS};
 
 /// A grey image: greys row by row from the top left, 0 for full ink to 255 for bare paper.
 ///
@@ -69,14 +69,14 @@ impl Plate {
         format!("P5\n{} {}\n255\n", self.width, self.height)
     }
 
-    /// The area opening at a limit: light patches of fewer pixels are taken away.
-    pub fn area_open(&self, connectivity: Connectivity, limit: u32) -> Result<Plate, Refusal> {
-        WorkSpace::new().area_open(self, connectivity, limit)
-    }
-
-    /// The area closing at a limit: dark patches of fewer pixels are taken away.
-    pub fn area_close(&self, connectivity: Connectivity, limit: u32) -> Result<Plate, Refusal> {
-        WorkSpace::new().area_close(self, connectivity, limit)
+    /// The plate cleaned at a limit: the patches of a side that have fewer pixels are taken away.
+    pub fn clean(
+        &self,
+        side: Side,
+        connectivity: Connectivity,
+        limit: u32,
+    ) -> Result<Plate, Refusal> {
+        WorkSpace::new().clean(self, side, connectivity, limit)
     }
 
     /// The regional maxima: 1 inside one, 0 elsewhere.
@@ -120,27 +120,16 @@ impl Plate {
 
 /// The operations on plates.
 impl WorkSpace {
-    /// See [`Plate::area_open`].
-    pub fn area_open(
+    /// See [`Plate::clean`].
+    pub fn clean(
         &mut self,
         plate: &Plate,
+        side: Side,
         connectivity: Connectivity,
         limit: u32,
     ) -> Result<Plate, Refusal> {
         self.answered(plate, connectivity, |image, out, work| {
-            lent::area_open(image, limit, out, work)
-        })
-    }
-
-    /// See [`Plate::area_close`].
-    pub fn area_close(
-        &mut self,
-        plate: &Plate,
-        connectivity: Connectivity,
-        limit: u32,
-    ) -> Result<Plate, Refusal> {
-        self.answered(plate, connectivity, |image, out, work| {
-            lent::area_close(image, limit, out, work)
+            lent::clean(side.number(), image, limit, out, work)
         })
     }
 

@@ -99,7 +99,7 @@ impl Record {
         WorkSpace::new().plate(self)
     }
 
-    /// The cut at a limit: the area opening of the record's plate, under its connectivity.
+    /// The cut at a limit: the record's plate, cleaned on the light side under its connectivity.
     pub fn cut(&self, limit: u32) -> Result<Plate, Refusal> {
         WorkSpace::new().cut(self, limit)
     }

@@ -32,10 +32,11 @@ pub enum Refusal {
     FieldRange = 22,
     RecordLong = 23,
     NotCanonical = 24,
+    Side = 26,
 }
 
 /// Each refusal with what it means.
-const MEANINGS: [(Refusal, &str); 16] = [
+const MEANINGS: [(Refusal, &str); 17] = [
     (Refusal::Connectivity, "the connectivity is neither 4 nor 8"),
     (
         Refusal::Grid,
@@ -91,6 +92,7 @@ const MEANINGS: [(Refusal, &str); 16] = [
         Refusal::NotCanonical,
         "the record is not the one that its plate has",
     ),
+    (Refusal::Side, "the side is neither 1 (light) nor 2 (dark)"),
 ];
 
 impl Refusal {

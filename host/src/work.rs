@@ -19,13 +19,13 @@ pub fn work_space(pixels: usize) -> Vec<u32> {
 /// many calls, the same methods of one work space save the time in which its memory is fetched and given back.
 ///
 /// ```
-/// use livukoe::{Connectivity, Plate, WorkSpace};
+/// use livukoe::{Connectivity, Plate, Side, WorkSpace};
 ///
 /// let mut work = WorkSpace::new();
 /// let plate = Plate::new(3, 1, vec![10, 20, 10]);
-/// let opened = work.area_open(&plate, Connectivity::Four, 2)?;
-/// let record = work.record(&opened, Connectivity::Four)?;
-/// assert_eq!(work.plate(&record)?, opened);
+/// let clean = work.clean(&plate, Side::Light, Connectivity::Four, 2)?;
+/// let record = work.record(&clean, Connectivity::Four)?;
+/// assert_eq!(work.plate(&record)?, clean);
 /// # Ok::<(), livukoe::Refusal>(())
 /// ```
 #[derive(Clone, Debug, Default)]

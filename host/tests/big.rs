@@ -5,7 +5,7 @@ mod common;
 
 use common::Chance;
 use livukoe::pictures::{self, picture};
-use livukoe::{Connectivity, Plate};
+use livukoe::{Connectivity, Plate, Side};
 
 const BOTH: [Connectivity; 2] = [Connectivity::Four, Connectivity::Eight];
 
@@ -23,28 +23,31 @@ fn assert_nowhere_lighter(one: &Plate, other: &Plate) {
     assert!(pairs.all(|(grey, bound)| grey <= bound));
 }
 
-/// What holds of opening and closing at a limit.
+/// The plate without its light patches below a limit.
+fn without_light(plate: &Plate, connectivity: Connectivity, limit: u32) -> Plate {
+    let clean = plate.clean(Side::Light, connectivity, limit);
+    clean.expect("a clean plate")
+}
+
+/// What holds of cleaning at a limit.
 fn check_cleaning(plate: &Plate, connectivity: Connectivity, limit: u32) {
-    let opened = plate.area_open(connectivity, limit).expect("an opening");
-    assert_nowhere_lighter(&opened, plate);
-    let again = opened.area_open(connectivity, limit).expect("an opening");
-    assert_eq!(again, opened, "opening twice");
-    let smaller = opened
-        .area_open(connectivity, limit.div_ceil(2))
-        .expect("an opening");
-    assert_eq!(smaller, opened, "opening at a smaller limit");
-    let closed = negative(plate)
-        .area_close(connectivity, limit)
-        .expect("a closing");
-    assert_eq!(negative(&closed), opened, "closing the negative");
+    let light = without_light(plate, connectivity, limit);
+    assert_nowhere_lighter(&light, plate);
+    let again = without_light(&light, connectivity, limit);
+    assert_eq!(again, light, "cleaned twice");
+    let smaller = without_light(&light, connectivity, limit.div_ceil(2));
+    assert_eq!(smaller, light, "cleaned at a smaller limit");
+    let dark = negative(plate).clean(Side::Dark, connectivity, limit);
+    let dark = dark.expect("a clean plate");
+    assert_eq!(negative(&dark), light, "the dark side of the negative");
 }
 
 /// What holds of a plate's record.
 fn check_record(plate: &Plate, connectivity: Connectivity, limit: u32) {
     let record = plate.record(connectivity).expect("a record");
     assert_eq!(record.plate().expect("its plate"), *plate);
-    let opened = plate.area_open(connectivity, limit).expect("an opening");
-    assert_eq!(record.cut(limit).expect("a cut"), opened);
+    let clean = without_light(plate, connectivity, limit);
+    assert_eq!(record.cut(limit).expect("a cut"), clean);
     let sizes = record.sizes().expect("a size list");
     let lost: u64 = sizes.sizes().map(|size| size.loss).sum();
     let rest = u64::from(sizes.darkest()) * plate.greys().len() as u64;
@@ -53,7 +56,7 @@ fn check_record(plate: &Plate, connectivity: Connectivity, limit: u32) {
     let lost_below: u64 = below.map(|size| size.loss).sum();
     assert_eq!(
         total(plate) - lost_below,
-        total(&opened),
+        total(&clean),
         "lost below the limit"
     );
     let counted: u64 = sizes.sizes().map(|size| u64::from(size.count)).sum();
@@ -136,17 +139,17 @@ fn patches_about_65536() {
         let plate = patch(area);
         for limit in 65_534..=65_540u32 {
             for connectivity in BOTH {
-                let opened = plate.area_open(connectivity, limit).expect("an opening");
+                let clean = without_light(&plate, connectivity, limit);
                 let stays = limit as usize <= area;
                 assert_eq!(
-                    opened.greys()[0],
+                    clean.greys()[0],
                     if stays { 200 } else { 20 },
                     "{area}, {limit}"
                 );
                 let cut = plate
                     .record(connectivity)
                     .and_then(|record| record.cut(limit));
-                assert_eq!(cut.expect("a cut"), opened);
+                assert_eq!(cut.expect("a cut"), clean);
             }
         }
         let list = plate
@@ -181,7 +184,7 @@ fn strewn_patches() {
     }
     let plate = Plate::new(width as u32, height as u32, greys);
     for connectivity in BOTH {
-        let opened = plate.area_open(connectivity, 25).expect("an opening");
-        assert!(opened.greys() == wanted);
+        let clean = without_light(&plate, connectivity, 25);
+        assert!(clean.greys() == wanted);
     }
 }

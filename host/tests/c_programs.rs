@@ -94,6 +94,7 @@ fn refusals_in_words() {
         Refusal::FieldRange,
         Refusal::RecordLong,
         Refusal::NotCanonical,
+        Refusal::Side,
     ];
     let wanted = |number| match refusals.iter().find(|refusal| refusal.number() == number) {
         Some(refusal) => refusal.to_string(),

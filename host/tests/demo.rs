@@ -21,8 +21,13 @@ fn pictures() {
         env!("CARGO_BIN_EXE_livukoe-demo"),
     );
     run(demo, &["relief", "before.pgm"]);
-    run(tool, &["open", "--limit", "17", "before.pgm", "opened.pgm"]);
-    run(tool, &["close", "--limit", "17", "opened.pgm", "after.pgm"]);
+    for (side, files) in [
+        ("light", ["before.pgm", "between.pgm"]),
+        ("dark", ["between.pgm", "after.pgm"]),
+    ] {
+        let words = ["clean", "--side", side, "--limit", "17"];
+        run(tool, &[&words[..], &files].concat());
+    }
     for name in ["before", "after"] {
         let (plate, picture) = (format!("{name}.pgm"), format!("{name}.png"));
         run(demo, &["png", &plate, &picture]);

@@ -176,12 +176,16 @@ fn the_tool() {
         .lines()
         .filter_map(|line| line.strip_prefix("  livukoe "));
     let commands: BTreeSet<&str> = commands.filter_map(|line| line.split(' ').next()).collect();
-    assert!(commands.contains("open"));
+    assert!(commands.contains("clean"));
     let page = fs::read_to_string(root.path("share/man/man1/livukoe.1")).expect("the page");
     let completed = completed(root, &["livukoe", ""]);
     for command in commands {
         assert!(page.contains(&format!("\n.B {command}\n")), "{command}");
         assert!(completed.contains(command), "{command}");
+    }
+    for gone in ["open", "close"] {
+        assert!(!page.contains(&format!("\n.B {gone}\n")), "{gone}");
+        assert!(!completed.contains(gone), "{gone}");
     }
 }
 
@@ -201,14 +205,22 @@ fn completed(root: &Root, words: &[&str]) -> BTreeSet<String> {
 fn completions() {
     let root = Root::shared();
     let offered = |words: &[&str]| completed(root, words).into_iter().collect::<Vec<_>>();
-    assert_eq!(offered(&["livukoe", "c"]), ["close", "cut"]);
+    assert_eq!(offered(&["livukoe", "c"]), ["clean", "cut"]);
     assert_eq!(offered(&["livukoe", "cut", "--"]), ["--force", "--limit"]);
     assert_eq!(
-        offered(&["livukoe", "open", "--connectivity", ""]),
-        ["4", "8"]
+        offered(&["livukoe", "clean", "--"]),
+        ["--connectivity", "--force", "--limit", "--side"]
     );
-    assert_eq!(
-        offered(&["livukoe", "open", "--connectivity", "="]),
-        ["4", "8"]
-    );
+    for (option, values) in [
+        ("--connectivity", ["4", "8"]),
+        ("--side", ["dark", "light"]),
+    ] {
+        assert_eq!(offered(&["livukoe", "clean", option, ""]), values);
+        assert_eq!(offered(&["livukoe", "clean", option, "="]), values);
+        for value in values {
+            let begun = &value[..1];
+            assert_eq!(offered(&["livukoe", "clean", option, begun]), [value]);
+            assert_eq!(offered(&["livukoe", "clean", option, "=", begun]), [value]);
+        }
+    }
 }

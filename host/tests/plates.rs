@@ -6,24 +6,26 @@ mod common;
 use common::{Chance, Plate, Seen};
 use livukoe::lent::{self, Image, Node};
 
-/// How many plates of which largest side.
+/// How many plates of which greatest width and height.
 const CASES: [(usize, usize); 2] = [(100_000, 7), (200, 30)];
 
-/// The sides of all cases, one after another.
-fn sides() -> impl Iterator<Item = usize> {
+/// The greatest widths and heights of all cases, one after another.
+fn extents() -> impl Iterator<Item = usize> {
     CASES
         .into_iter()
-        .flat_map(|(cases, side)| std::iter::repeat_n(side, cases))
+        .flat_map(|(cases, extent)| std::iter::repeat_n(extent, cases))
 }
 
-type Proved = fn(Image, u32, &mut [u8], &mut [u32]) -> u32;
-type Reference = fn(&[u8], u32, u32, u32, u32, &mut [u8], &mut [u32]) -> reference::Done;
-
 /// Compares an operation with one output, over plates by chance.
-fn compare(seed: u64, proved: Proved, reference: Reference, refusals: &[u32]) {
+fn compare(
+    seed: u64,
+    proved: impl Fn(Image, u32, &mut [u8], &mut [u32]) -> u32,
+    reference: impl Fn(&[u8], u32, u32, u32, u32, &mut [u8], &mut [u32]) -> reference::Done,
+    refusals: &[u32],
+) {
     let (mut chance, mut seen) = (Chance::new(seed), Seen::default());
-    for (case, side) in sides().enumerate() {
-        let plate = chance.job(side);
+    for (case, extent) in extents().enumerate() {
+        let plate = chance.job(extent);
         let limit = chance.limit(plate.pixels());
         let mut out = chance.buffer(plate.pixels());
         let mut work = chance.buffer(8 * plate.pixels());
@@ -47,24 +49,91 @@ fn compare(seed: u64, proved: Proved, reference: Reference, refusals: &[u32]) {
     seen.assert_all(refusals);
 }
 
-#[test]
-fn opening() {
+/// Compares cleaning on a side.
+fn compare_cleaning(seed: u64, side: u32, refusals: &[u32]) {
     compare(
-        1,
-        lent::area_open,
-        reference::area_open,
-        &[0, 1, 2, 3, 4, 5, 6],
+        seed,
+        |image, limit, out, work| lent::clean(side, image, limit, out, work),
+        |greys, width, height, connectivity, limit, out, work| {
+            reference::clean(side, greys, width, height, connectivity, limit, out, work)
+        },
+        refusals,
     );
 }
 
 #[test]
-fn closing() {
-    compare(
-        2,
-        lent::area_close,
-        reference::area_close,
-        &[0, 1, 2, 3, 4, 5, 6],
-    );
+fn cleaning_light() {
+    compare_cleaning(1, reference::LIGHT, &[0, 1, 2, 3, 4, 5, 6]);
+}
+
+#[test]
+fn cleaning_dark() {
+    compare_cleaning(2, reference::DARK, &[0, 1, 2, 3, 4, 5, 6]);
+}
+
+/// Numbers of no side.
+const NEITHER: [u32; 3] = [0, 3, u32::MAX];
+
+#[test]
+fn cleaning_neither() {
+    for side in NEITHER {
+        compare_cleaning(5, side, &[26]);
+    }
+}
+
+/// A side that is neither 1 nor 2 is refused ahead of every other condition, and nothing is written.
+#[test]
+fn the_side_comes_first() {
+    let greys = [10; 12];
+    let all_right = (4, 3, 4, 2, 12, 96);
+    let slips = [
+        (1, (4, 3, 5, 2, 12, 96)),
+        (2, (0, 3, 4, 2, 12, 96)),
+        (3, (4, 2, 4, 2, 12, 96)),
+        (4, (4, 3, 4, 13, 12, 96)),
+        (5, (4, 3, 4, 2, 11, 96)),
+        (6, (4, 3, 4, 2, 12, 95)),
+    ];
+    for (refusal, numbers) in slips.into_iter().chain([(0, all_right)]) {
+        let (width, height, connectivity, limit, places, work_places) = numbers;
+        let image = Image {
+            greys: &greys,
+            width,
+            height,
+            connectivity,
+        };
+        let (mut out, mut work) = (vec![77; places], vec![77; work_places]);
+        for side in NEITHER {
+            assert_eq!(lent::clean(side, image, limit, &mut out, &mut work), 26);
+            assert!(out == vec![77; places] && work == vec![77; work_places]);
+        }
+        let answer = lent::clean(reference::DARK, image, limit, &mut out, &mut work);
+        assert_eq!(answer, refusal);
+    }
+}
+
+/// The light side of a plate and the dark side of its negative are negatives.
+#[test]
+fn negatives() {
+    let negative = |greys: &[u8]| -> Vec<u8> { greys.iter().map(|grey| 255 - grey).collect() };
+    let mut chance = Chance::new(6);
+    for (case, extent) in extents().enumerate() {
+        let plate = chance.plate(extent);
+        let limit = 1 + chance.below(plate.pixels()) as u32;
+        let cleaned = |side, plate: &Plate| {
+            let (mut out, mut work) = (vec![0; plate.pixels()], vec![0; 8 * plate.pixels()]);
+            let refusal = lent::clean(side, plate.image(), limit, &mut out, &mut work);
+            assert_eq!(refusal, 0);
+            out
+        };
+        let light = cleaned(reference::LIGHT, &plate);
+        let negated = Plate {
+            greys: negative(&plate.greys),
+            ..plate.clone()
+        };
+        let dark = cleaned(reference::DARK, &negated);
+        assert_eq!(negative(&dark), light, "case {case}: {plate:?}, {limit}");
+    }
 }
 
 #[test]
@@ -82,8 +151,8 @@ fn marking_maxima() {
 #[test]
 fn listing_nodes() {
     let (mut chance, mut seen) = (Chance::new(4), Seen::default());
-    for (case, side) in sides().enumerate() {
-        let plate = chance.job(side);
+    for (case, extent) in extents().enumerate() {
+        let plate = chance.job(extent);
         let nodes = count_nodes(&plate);
         let mut columns: [Vec<u32>; 4] = std::array::from_fn(|_| chance.buffer(nodes));
         let mut work = chance.buffer(8 * plate.pixels());
@@ -109,8 +178,8 @@ fn listing_nodes() {
 #[test]
 fn listing_entries() {
     let (mut chance, mut seen) = (Chance::new(15), Seen::default());
-    for (case, side) in sides().enumerate() {
-        let plate = chance.job(side);
+    for (case, extent) in extents().enumerate() {
+        let plate = chance.job(extent);
         let places = chance.length_near(count_nodes(&plate));
         let mut list = vec![Node::default(); places];
         let mut work = chance.buffer(8 * plate.pixels());

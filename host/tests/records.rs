@@ -6,7 +6,7 @@ use common::{Chance, Plate, Seen};
 use livukoe::lent;
 
 const CASES: u64 = 60_000;
-const SIDE: usize = 5;
+const EXTENT: usize = 5;
 
 /// The record of a plate, by the second program.
 fn record_of(plate: &Plate) -> Vec<u8> {
@@ -29,7 +29,7 @@ fn record_of(plate: &Plate) -> Vec<u8> {
 fn writing() {
     let (mut chance, mut seen) = (Chance::new(8), Seen::default());
     for case in 0..CASES {
-        let plate = chance.job(SIDE);
+        let plate = chance.job(EXTENT);
         let mut out = chance.buffer(record_of(&plate).len());
         let mut work = chance.buffer(8 * plate.pixels());
         let (mut out2, mut work2) = (out.clone(), work.clone());
@@ -57,7 +57,7 @@ fn writing() {
 
 /// A record, damaged more often than not, and the pixels of the plate that it came from.
 fn damaged(chance: &mut Chance) -> (Vec<u8>, usize) {
-    let plate = chance.plate(SIDE);
+    let plate = chance.plate(EXTENT);
     let mut record = record_of(&plate);
     if !chance.one_in(3) {
         chance.damage(&mut record);
@@ -191,7 +191,7 @@ fn at_once(plate: &Plate, limit: u32, lent: &mut Buffers) -> lent::JointHead {
 fn writing_cutting_and_listing_at_once() {
     let (mut chance, mut seen) = (Chance::new(13), Seen::default());
     for case in 0..CASES {
-        let plate = chance.job(SIDE);
+        let plate = chance.job(EXTENT);
         let limit = chance.limit(plate.pixels());
         let places = plate.pixels().saturating_sub(1);
         let mut given = Buffers {

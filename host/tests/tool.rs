@@ -4,25 +4,54 @@ mod tool_common;
 
 use std::fs::{self, File};
 use std::path::{Path, PathBuf};
-use std::process::Stdio;
+use std::process::{Output, Stdio};
 
 use tool_common::*;
 
+const CLEAN: [&str; 7] = ["clean", "--side", "light", "--limit", "2", "-", "-"];
+
+/// Runs the tool with the words of a line, on standard input.
+fn run_line(line: &str, input: &[u8]) -> Output {
+    let words: Vec<&str> = line.split(' ').collect();
+    run_on(&words, input)
+}
+
 #[test]
 fn the_small_plate() {
-    let opened = run_on(&["open", "--limit", "2", "-", "-"], SMALL);
-    assert_ok(&opened);
+    let light = run_on(&CLEAN, SMALL);
+    assert_ok(&light);
     let wanted = [10, 10, 10, 10, 10, 30, 30, 10, 10, 10, 10, 10];
-    assert_eq!(opened.stdout, small_file(wanted));
-    let eight = run_on(&["open", "--limit=3", "--connectivity=8", "-", "-"], SMALL);
+    assert_eq!(light.stdout, small_file(wanted));
+    let eight = run_line("clean --limit=3 --connectivity=8 --side=light - -", SMALL);
     let wanted = [10, 10, 10, 10, 10, 30, 30, 10, 10, 10, 10, 30];
     assert_eq!(eight.stdout, small_file(wanted));
-    let closed = run_on(&["close", "--limit", "10", "-", "-"], SMALL);
+    let dark = run_line("clean --side dark --limit 10 - -", SMALL);
+    assert_ok(&dark);
     let wanted = [30, 30, 30, 30, 30, 50, 30, 30, 30, 30, 30, 90];
-    assert_eq!(closed.stdout, small_file(wanted));
+    assert_eq!(dark.stdout, small_file(wanted));
     let maxima = run_on(&["maxima", "-", "-"], SMALL);
     let wanted = [0, 0, 0, 0, 0, 255, 0, 0, 0, 0, 0, 255];
     assert_eq!(maxima.stdout, small_file(wanted));
+}
+
+/// A side is a word or a number.
+#[test]
+fn sides() {
+    for (word, number) in [("light", "1"), ("dark", "2")] {
+        let cleaned = |side: &str| {
+            let output = run_line(&format!("clean {side} --limit 10 - -"), SMALL);
+            assert_ok(&output);
+            output.stdout
+        };
+        let wanted = cleaned(&format!("--side {word}"));
+        for side in [
+            format!("--side={word}"),
+            format!("--side {number}"),
+            format!("--side={number}"),
+        ] {
+            assert_eq!(cleaned(&side), wanted, "{side}");
+        }
+    }
 }
 
 #[test]
@@ -48,8 +77,7 @@ fn records() {
     assert_ok(&plate);
     assert_eq!(plate.stdout, SMALL);
     let cut = run_on(&["cut", "--limit", "2", "-", "-"], &SMALL_RECORD);
-    let opened = run_on(&["open", "--limit", "2", "-", "-"], SMALL);
-    assert_eq!(cut.stdout, opened.stdout);
+    assert_eq!(cut.stdout, run_on(&CLEAN, SMALL).stdout);
 }
 
 #[test]
@@ -64,7 +92,7 @@ fn refusals() {
         (b"P5 2 1 255\n\x07", 14),
         (b"P5 1 1 255\n\x07\x07", 15),
     ] {
-        assert_refused(&run_on(&["open", "--limit", "1", "-", "-"], file), number);
+        assert_refused(&run_on(&CLEAN, file), number);
         assert_refused(&run_on(&["sizelist", "-"], file), number);
     }
     for (record, number) in [
@@ -138,11 +166,15 @@ fn other_formats() {
 
 #[test]
 fn help_and_version() {
-    for words in [&["--help"][..], &["help"], &["-h"], &["open", "--help"]] {
+    let clean = "  livukoe clean --side light|dark --limit N [--connectivity 4|8] IN.pgm OUT.pgm\n";
+    for words in [&["--help"][..], &["help"], &["-h"], &["clean", "--help"]] {
         let help = run(words, &[]);
         assert_ok(&help);
-        assert!(text(&help.stdout)
-            .contains("livukoe open  --limit N [--connectivity 4|8] IN.pgm OUT.pgm"));
+        let help = text(&help.stdout);
+        assert!(help.contains(clean));
+        for gone in ["open", "close"] {
+            assert!(!help.contains(&format!("livukoe {gone}")), "{gone}");
+        }
     }
     for word in ["--version", "version", "-V"] {
         let version = run(&[word], &[]);
@@ -168,7 +200,6 @@ fn names_in_messages() {
 /// Whatever is done to its standard streams, the status is one of those that are promised.
 #[test]
 fn standard_streams() {
-    let open = ["open", "--limit", "2", "-", "-"];
     for (line, status, words) in [
         (
             "\"$@\" >&-",
@@ -188,12 +219,12 @@ fn standard_streams() {
         ("\"$@\" <&-", 3, "cannot read standard input: it is closed"),
         ("\"$@\" <.", 3, "cannot read standard input: Is a directory"),
     ] {
-        let output = run_fed(&mut by_shell(line, &open), SMALL);
+        let output = run_fed(&mut by_shell(line, &CLEAN), SMALL);
         assert_says_of(&output, status, words);
     }
     for (line, words, status) in [
-        ("\"$@\" 2>/dev/full", &["clean"][..], 2),
-        ("\"$@\" 2>&-", &["clean"], 2),
+        ("\"$@\" 2>/dev/full", &["wash"][..], 2),
+        ("\"$@\" 2>&-", &["wash"], 2),
         ("\"$@\" 2>/dev/full", &["maxima", "/no/such/file", "-"], 3),
         ("echo P4 | \"$@\" 2>/dev/full", &["maxima", "-", "-"], 1),
         ("\"$@\" >&- 2>&-", &["help"], 3),
@@ -265,19 +296,19 @@ fn long_inputs() {
 /// A command, the header of a plate file, how many bytes follow it, and the refusal with the figures of the case.
 const PLATE_FIGURES: [(&str, &str, usize, &str); 10] = [
     (
-        "open --limit 500",
+        "clean --side light --limit 500",
         "P5 20 20 255\n",
         400,
         "4: the limit 500 is above the 400 pixels (20 x 20)",
     ),
     (
-        "close --limit 00",
+        "clean --side dark --limit 00",
         "P5 2 1 255\n",
         2,
         "4: the limit is 0; the least is 1",
     ),
     (
-        "open --limit 099999999999999999999",
+        "clean --side light --limit 099999999999999999999",
         "P5 2 1 255\n",
         2,
         "4: the limit 99999999999999999999 is above the 2 pixels (2 x 1)",
@@ -298,7 +329,7 @@ const PLATE_FIGURES: [(&str, &str, usize, &str); 10] = [
         "maxima",
         "P5 0 40000 255\n",
         0,
-        "2: 0 x 40000 pixels; each side is 1 to 32768",
+        "2: 0 x 40000 pixels; width and height are each 1 to 32768",
     ),
     (
         "maxima",
@@ -339,9 +370,9 @@ fn refusals_of_plate_files_with_figures() {
 
 /// A command on standard input is refused in these words.
 fn assert_tells(command: &str, input: &[u8], wanted: &str) {
-    let words: Vec<&str> = command.split(' ').chain(["-", "-"]).collect();
+    let output = run_line(&format!("{command} - -"), input);
     let line = format!("standard input: refused {wanted}");
-    assert_says(&run_on(&words, input), 1, &line);
+    assert_says(&output, 1, &line);
 }
 
 #[test]
@@ -374,26 +405,59 @@ fn refusals_of_records_with_figures() {
 }
 
 /// Command lines, and what is wrong with them.
-const SLIPS: [(&str, &str); 20] = [
-    ("clean", "there is no command clean"),
-    ("open a b", "open lacks --limit"),
-    ("open --limit a b", "the limit a is not a whole number"),
+const SLIPS: [(&str, &str); 35] = [
+    ("wash", "there is no command wash"),
+    ("clean", "clean lacks --side light or --side dark"),
+    ("clean a b", "clean lacks --side light or --side dark"),
     (
-        "open --limit 2 a",
-        "open takes IN and OUT, and 1 file is given",
+        "clean --limit 2 a b",
+        "clean lacks --side light or --side dark",
     ),
-    ("open --limit=2x a b", "the limit 2x is not a whole number"),
-    ("open --limit= a b", "the limit  is not a whole number"),
+    ("clean --side light a b", "clean lacks --limit"),
     (
-        "open --limit 2 --connectivity 6 a b",
+        "clean --side both a b",
+        "the side both is neither light nor dark",
+    ),
+    (
+        "clean --side=Dark a b",
+        "the side Dark is neither light nor dark",
+    ),
+    ("clean --side 3 a b", "the side 3 is neither light nor dark"),
+    (
+        "clean --side \x1b[2J a b",
+        "the side \\u{1b}[2J is neither light nor dark",
+    ),
+    ("clean --side= a b", "the side  is neither light nor dark"),
+    ("clean --side", "--side lacks its value"),
+    (
+        "clean --side dark --side=light a b",
+        "--side is given twice",
+    ),
+    ("maxima --side dark a b", "maxima takes no --side"),
+    ("cut --side=1 --limit 2 a b", "cut takes no --side"),
+    (
+        "clean --side 1 --limit a b",
+        "the limit a is not a whole number",
+    ),
+    (
+        "clean --side 1 --limit 2 a",
+        "clean takes IN and OUT, and 1 file is given",
+    ),
+    ("clean --limit=2x a b", "the limit 2x is not a whole number"),
+    ("clean --limit= a b", "the limit  is not a whole number"),
+    (
+        "clean --limit 2 --connectivity 6 a b",
         "the connectivity 6 is neither 4 nor 8",
     ),
-    ("open --limit 2 --colour a b", "there is no option --colour"),
     (
-        "open --limit 2 a b c",
-        "open takes IN and OUT, and 3 files are given",
+        "clean --limit 2 --colour a b",
+        "there is no option --colour",
     ),
-    ("open --limit 2 --limit=2 a b", "--limit is given twice"),
+    (
+        "clean --side 2 --limit 2 a b c",
+        "clean takes IN and OUT, and 3 files are given",
+    ),
+    ("clean --limit 2 --limit=2 a b", "--limit is given twice"),
     (
         "maxima --connectivity=4 --connectivity 8 a b",
         "--connectivity is given twice",
@@ -409,6 +473,15 @@ const SLIPS: [(&str, &str); 20] = [
     ("nodes a b", "nodes takes IN, and 2 files are given"),
     ("nodes a --connectivity", "--connectivity lacks its value"),
     ("\x1b[2J", "there is no command \\u{1b}[2J"),
+    (
+        "open --limit 2 a b",
+        "there is no command open; write clean --side light",
+    ),
+    (
+        "close --help",
+        "there is no command close; write clean --side dark",
+    ),
+    ("Open", "there is no command Open"),
     ("nodes --\n", "there is no option --\\n"),
 ];
 

@@ -14,9 +14,9 @@ use std::time::Duration;
 
 use tool_common::*;
 
-/// What `open --limit 2` makes of the small plate.
-const OPENED: [u8; 12] = [10, 10, 10, 10, 10, 30, 30, 10, 10, 10, 10, 10];
-const OPEN: [&str; 3] = ["open", "--limit", "2"];
+/// What `clean --side light --limit 2` makes of the small plate.
+const CLEANED: [u8; 12] = [10, 10, 10, 10, 10, 30, 30, 10, 10, 10, 10, 10];
+const CLEAN: [&str; 5] = ["clean", "--side", "light", "--limit", "2"];
 /// Nobody's number as a user and as a group.
 const NOBODY: u32 = 65_534;
 
@@ -67,17 +67,17 @@ impl Case {
         path
     }
 
-    /// The tool that opens the plate into a file.
-    fn open(&self, output: &Path) -> Command {
+    /// The tool that cleans the plate into a file.
+    fn clean(&self, output: &Path) -> Command {
         let mut tool = tool();
-        tool.args(OPEN).arg(&self.input).arg(output);
+        tool.args(CLEAN).arg(&self.input).arg(output);
         tool
     }
 
     /// The same by a line of the shell, in which `"$@"` is the tool with its words.
-    fn open_by_shell(&self, line: &str, output: &Path) -> Command {
+    fn clean_by_shell(&self, line: &str, output: &Path) -> Command {
         let files = [&self.input, output].map(|path| path.to_str().expect("a name"));
-        by_shell(line, &[&OPEN[..], &files].concat())
+        by_shell(line, &[&CLEAN[..], &files].concat())
     }
 
     /// The C functions of `TELLING` as a library to be loaded ahead of others.
@@ -91,15 +91,15 @@ impl Case {
         library
     }
 
-    fn assert_opened(&self, output: &Path) {
-        assert_ok(&self.open(output).output().expect("a run"));
-        assert_eq!(fs::read(output).expect("OUT"), small_file(OPENED));
+    fn assert_cleaned(&self, output: &Path) {
+        assert_ok(&self.clean(output).output().expect("a run"));
+        assert_eq!(fs::read(output).expect("OUT"), small_file(CLEANED));
     }
 
     /// Is not done, and nothing is changed by it.
     fn assert_left(&self, output: &Path, words: &str) {
         let before = self.folder.names();
-        assert_says_of(&self.open(output).output().expect("a run"), 3, words);
+        assert_says_of(&self.clean(output).output().expect("a run"), 3, words);
         assert_eq!(self.folder.names(), before);
     }
 }
@@ -129,11 +129,11 @@ fn as_user<'a>(command: &'a mut Command, folder: &Path) -> &'a mut Command {
 fn files() {
     let folder = Folder::new("files");
     let (input, output) = (folder.file("in.pgm", SMALL), folder.path("out.pgm"));
-    assert_ok(&run(&["open", "--limit", "2"], &[&input, &output]));
+    assert_ok(&run(&CLEAN, &[&input, &output]));
     assert_eq!(fs::read(&output).expect("OUT").len(), SMALL.len());
     assert_eq!(folder.names(), ["in.pgm", "out.pgm"]);
     // IN and OUT may be one file
-    assert_ok(&run(&["open", "--limit", "2"], &[&input, &input]));
+    assert_ok(&run(&CLEAN, &[&input, &input]));
     assert_eq!(
         fs::read(&input).expect("IN"),
         fs::read(&output).expect("OUT")
@@ -148,10 +148,8 @@ fn a_refusal_leaves_the_output() {
         folder.file("out.pgm", b"as it was"),
     );
     for (limit, number) in [("0", 4), ("13", 4), ("99999999999999999999", 4)] {
-        assert_refused(
-            &run(&["open", "--limit", limit], &[&input, &output]),
-            number,
-        );
+        let words = ["clean", "--side", "light", "--limit", limit];
+        assert_refused(&run(&words, &[&input, &output]), number);
     }
     let damaged = folder.file("damaged.rec", &SMALL_RECORD[..26]);
     assert_refused(&run(&["plate"], &[&damaged, &output]), 20);
@@ -163,10 +161,7 @@ fn a_refusal_leaves_the_output() {
 fn devices_are_written_and_not_replaced() {
     let folder = Folder::new("devices");
     let input = folder.file("in.pgm", SMALL);
-    assert_ok(&run(
-        &["open", "--limit", "1"],
-        &[&input, Path::new("/dev/null")],
-    ));
+    assert_ok(&run(&CLEAN, &[&input, Path::new("/dev/null")]));
     let about = fs::metadata("/dev/null").expect("the device");
     assert!(!about.is_file());
 }
@@ -178,7 +173,7 @@ fn files_that_cannot_be_used() {
     let missing = folder.path("missing.pgm");
     let output = folder.path("no/such/folder/out.pgm");
     for files in [[&missing, &missing], [&input, &output]] {
-        let output = run(&["open", "--limit", "2"], &files.map(PathBuf::as_path));
+        let output = run(&CLEAN, &files.map(PathBuf::as_path));
         assert_eq!(output.status.code(), Some(3));
         assert!(text(&output.stderr).starts_with("livukoe: cannot "));
     }
@@ -193,9 +188,9 @@ fn a_link_to_a_file() {
     let (near, far) = (case.folder.path("near"), case.folder.path("far"));
     symlink("out.pgm", &near).expect("a link");
     symlink(&near, &far).expect("a link");
-    case.assert_opened(&far);
+    case.assert_cleaned(&far);
     assert!(about(&near).is_symlink() && about(&far).is_symlink());
-    assert_eq!(fs::read(&file).expect("OUT"), small_file(OPENED));
+    assert_eq!(fs::read(&file).expect("OUT"), small_file(CLEANED));
     assert_eq!(case.folder.names(), ["far", "in.pgm", "near", "out.pgm"]);
 }
 
@@ -230,20 +225,20 @@ fn a_link_to_standard_output() {
             fs::remove_file(&path).expect("removed");
         }
         let run = case
-            .open(&link)
+            .clean(&link)
             .stdout(file.try_clone().expect("it"))
             .output();
         assert_ok(&run.expect("a run"));
         let mut content = Vec::new();
         file.seek(SeekFrom::Start(0)).expect("its start");
         file.read_to_end(&mut content).expect("its content");
-        assert_eq!(content, [b"ahead;", &small_file(OPENED)[..]].concat());
+        assert_eq!(content, [b"ahead;", &small_file(CLEANED)[..]].concat());
         assert!(about(&link).is_symlink());
     }
     assert_eq!(case.folder.names(), ["in.pgm", "kept.pgm", "link"]);
-    let output = case.open(&link).output().expect("a run"); // a pipe
+    let output = case.clean(&link).output().expect("a run"); // a pipe
     assert_ok(&output);
-    assert_eq!(output.stdout, small_file(OPENED));
+    assert_eq!(output.stdout, small_file(CLEANED));
 }
 
 /// The same of /dev/stdout, as a user who could not replace it.
@@ -257,7 +252,7 @@ fn dev_stdout() {
     let path = case.folder.path("out.pgm");
     let file = File::create(&path).expect("a file");
     fs::remove_file(&path).expect("removed");
-    let mut tool = case.open(name);
+    let mut tool = case.clean(name);
     let run = as_user(&mut tool, &case.folder.path("")).stdout(file.try_clone().expect("it"));
     assert_ok(&run.output().expect("a run"));
     assert_eq!(
@@ -277,8 +272,8 @@ fn a_named_pipe() {
         let pipe = pipe.clone();
         move || fs::read(pipe).expect("what was written")
     });
-    assert_ok(&case.open(&pipe).output().expect("a run"));
-    assert_eq!(reader.join().expect("a reader"), small_file(OPENED));
+    assert_ok(&case.clean(&pipe).output().expect("a run"));
+    assert_eq!(reader.join().expect("a reader"), small_file(CLEANED));
     assert!(!about(&pipe).is_file());
 }
 
@@ -288,8 +283,8 @@ fn long_names() {
     let case = Case::new("longnames");
     for length in [244, 245, 254, 255] {
         let path = case.folder.path(&"n".repeat(length));
-        case.assert_opened(&path);
-        case.assert_opened(&path);
+        case.assert_cleaned(&path);
+        case.assert_cleaned(&path);
     }
     let path = case.folder.path(&"n".repeat(256));
     case.assert_left(&path, "File name too long");
@@ -300,12 +295,12 @@ fn long_names() {
 fn runs_at_one_time() {
     let case = Case::new("together");
     let output = case.folder.path("out.pgm");
-    let spawn = |_| case.open(&output).spawn().expect("a run");
+    let spawn = |_| case.clean(&output).spawn().expect("a run");
     let runs: Vec<Child> = (0..16).map(spawn).collect();
     for mut run in runs {
         assert_eq!(run.wait().expect("its end").code(), Some(0));
     }
-    assert_eq!(fs::read(&output).expect("OUT"), small_file(OPENED));
+    assert_eq!(fs::read(&output).expect("OUT"), small_file(CLEANED));
     assert_eq!(case.folder.names(), ["in.pgm", "out.pgm"]);
 }
 
@@ -353,15 +348,15 @@ fn interrupts() {
     let output = case.old("out.pgm", 0o644);
     let names = ["in.pgm", "out.pgm", "telling.c", "telling.so"];
     for number in INTERRUPTS {
-        let status = interrupt(&case, interruptible(case.open(&output)), number);
+        let status = interrupt(&case, interruptible(case.clean(&output)), number);
         assert_eq!(status.signal(), Some(number));
         assert_eq!(fs::read(&output).expect("OUT"), b"as it was");
         assert_eq!(case.folder.names(), names);
     }
     // an interrupt that is ignored from the start, as `nohup` has it, is ignored
-    let command = case.open_by_shell("trap '' HUP; exec \"$@\"", &output);
+    let command = case.clean_by_shell("trap '' HUP; exec \"$@\"", &output);
     assert_eq!(interrupt(&case, command, 1).code(), Some(0));
-    assert_eq!(fs::read(&output).expect("OUT"), small_file(OPENED));
+    assert_eq!(fs::read(&output).expect("OUT"), small_file(CLEANED));
     assert_eq!(case.folder.names(), names);
 }
 
@@ -370,7 +365,7 @@ fn interrupts() {
 fn owner_group_and_permissions() {
     let case = Case::new("owner");
     let new = case.folder.path("new.pgm");
-    let run = case.open_by_shell("umask 027; exec \"$@\"", &new).output();
+    let run = case.clean_by_shell("umask 027; exec \"$@\"", &new).output();
     assert_ok(&run.expect("a run"));
     assert_eq!(about(&new).mode() & 0o7777, 0o640);
     for mode in [0o600, 0o664, 0o755] {
@@ -379,7 +374,7 @@ fn owner_group_and_permissions() {
             chown(&old, Some(NOBODY), Some(NOBODY)).expect("another owner");
         }
         let before = about(&old);
-        case.assert_opened(&old);
+        case.assert_cleaned(&old);
         let after = about(&old);
         assert_ne!(after.ino(), before.ino(), "a new file took its place");
         let kept = |about: &fs::Metadata| (about.mode(), about.uid(), about.gid());
@@ -397,9 +392,9 @@ fn a_write_protected_output() {
         "out.pgm: it is write-protected; --force replaces it",
     );
     assert_eq!(fs::read(&output).expect("OUT"), b"as it was");
-    let run = case.open(&output).arg("--force").output();
+    let run = case.clean(&output).arg("--force").output();
     assert_ok(&run.expect("a run"));
-    assert_eq!(fs::read(&output).expect("OUT"), small_file(OPENED));
+    assert_eq!(fs::read(&output).expect("OUT"), small_file(CLEANED));
     assert_eq!(about(&output).mode() & 0o7777, 0o444);
     assert_eq!(case.folder.names(), ["in.pgm", "out.pgm"]);
 }
@@ -412,8 +407,8 @@ fn hard_links() {
     let other = case.folder.path("other.pgm");
     fs::hard_link(&output, &other).expect("another name");
     let before = about(&output);
-    case.assert_opened(&output);
-    assert_eq!(fs::read(&other).expect("OUT"), small_file(OPENED));
+    case.assert_cleaned(&output);
+    assert_eq!(fs::read(&other).expect("OUT"), small_file(CLEANED));
     assert_eq!(about(&output).ino(), before.ino());
     assert_eq!(case.folder.names(), ["in.pgm", "other.pgm", "out.pgm"]);
 }
@@ -433,14 +428,14 @@ fn in_place() {
     for mode in modes {
         fs::write(&output, b"as it was").expect("OUT");
         set_mode(&closed, mode);
-        let mut tool = case.open(&output);
+        let mut tool = case.clean(&output);
         let run = as_user(&mut tool, &closed).output();
         assert_ok(&run.expect("a run"));
-        assert_eq!(fs::read(&output).expect("OUT"), small_file(OPENED));
+        assert_eq!(fs::read(&output).expect("OUT"), small_file(CLEANED));
         let after = about(&output);
         assert_eq!((after.ino(), after.uid()), (before.ino(), before.uid()));
         let new = closed.join("new.pgm");
-        let mut tool = case.open(&new);
+        let mut tool = case.clean(&new);
         let run = as_user(&mut tool, &closed).output().expect("a run");
         let status = if mode == 0o555 { 3 } else { 0 };
         assert_eq!(run.status.code(), Some(status), "{}", text(&run.stderr));
@@ -459,11 +454,11 @@ fn the_output_of_another() {
     }
     let output = case.old("out.pgm", 0o644);
     let folder = case.folder.path("");
-    let mut tool = case.open(&output);
+    let mut tool = case.clean(&output);
     let run = as_user(&mut tool, &folder).output().expect("a run");
     assert_says_of(&run, 3, "it is write-protected; --force replaces it");
     assert_eq!(fs::read(&output).expect("OUT"), b"as it was");
-    let mut tool = case.open(&output);
+    let mut tool = case.clean(&output);
     let run = as_user(&mut tool, &folder).arg("--force").output();
     assert_ok(&run.expect("a run"));
     assert_eq!(about(&output).uid(), NOBODY);
@@ -478,7 +473,7 @@ fn no_space() {
     fs::write(&case.input, plate).expect("a larger plate");
     let output = case.old("out.pgm", 0o644);
     let run = || {
-        let mut shell = case.open_by_shell("ulimit -f 1; exec \"$@\"", &output); // in units of 512 or 1024 bytes
+        let mut shell = case.clean_by_shell("ulimit -f 1; exec \"$@\"", &output); // in units of 512 or 1024 bytes
         shell.stdin(Stdio::null()).output().expect("a run")
     };
     assert_says_of(&run(), 3, "out.pgm: File too large");
@@ -496,7 +491,7 @@ fn what_a_power_cut_leaves() {
     let library = case.telling();
     let output = case.folder.path("out.pgm");
     for _ in 0..2 {
-        let run = case.open(&output).env("LD_PRELOAD", &library).output();
+        let run = case.clean(&output).env("LD_PRELOAD", &library).output();
         let told = text(&run.expect("a run").stderr);
         assert_eq!(told, "sync file\nrename\nsync directory\n");
     }

@@ -3,7 +3,7 @@
 mod common;
 
 use common::{Chance, Seen};
-use livukoe::{ink_percentage, lent, Connectivity, Joint, Plate, Record, Refusal, WorkSpace};
+use livukoe::{ink_percentage, lent, Connectivity, Joint, Plate, Record, Refusal, Side, WorkSpace};
 
 fn small() -> Plate {
     Plate::new(4, 3, vec![10, 10, 10, 10, 10, 50, 30, 10, 10, 10, 10, 90])
@@ -11,7 +11,8 @@ fn small() -> Plate {
 
 #[test]
 fn refusals_in_words() {
-    let refusal = small().area_open(Connectivity::Four, 13).unwrap_err();
+    let refusal = small().clean(Side::Light, Connectivity::Four, 13);
+    let refusal = refusal.unwrap_err();
     assert_eq!(refusal, Refusal::Limit);
     assert_eq!(refusal.number(), 4);
     let words = "refused 4: the limit is 0 or above the number of pixels";
@@ -28,12 +29,23 @@ fn plates_that_are_none() {
         (Plate::new(2, 2, vec![0; 5]), Refusal::PlateLength),
     ] {
         let connectivity = Connectivity::Eight;
-        assert_eq!(plate.area_open(connectivity, 1), Err(refusal));
-        assert_eq!(plate.area_close(connectivity, 1), Err(refusal));
+        for side in Side::ALL {
+            assert_eq!(plate.clean(side, connectivity, 1), Err(refusal));
+        }
         assert_eq!(plate.regional_maxima(connectivity), Err(refusal));
         assert_eq!(plate.nodes(connectivity), Err(refusal));
         assert_eq!(plate.record(connectivity), Err(refusal));
     }
+}
+
+#[test]
+fn both_sides() {
+    let light = small().clean(Side::Light, Connectivity::Four, 2);
+    let wanted = vec![10, 10, 10, 10, 10, 30, 30, 10, 10, 10, 10, 10];
+    assert_eq!(light, Ok(Plate::new(4, 3, wanted)));
+    let dark = small().clean(Side::Dark, Connectivity::Four, 10);
+    let wanted = vec![30, 30, 30, 30, 30, 50, 30, 30, 30, 30, 30, 90];
+    assert_eq!(dark, Ok(Plate::new(4, 3, wanted)));
 }
 
 #[test]
@@ -123,6 +135,23 @@ fn greys_and_bytes_without_a_copy() {
 }
 
 #[test]
+fn sides_by_number_and_name() {
+    for (side, number, name) in [(Side::Light, 1, "light"), (Side::Dark, 2, "dark")] {
+        assert_eq!((side.number(), side.name()), (number, name));
+        assert_eq!(number.try_into(), Ok(side));
+        assert_eq!(side.to_string(), name);
+        assert_eq!(name.parse(), Ok(side));
+        assert_eq!(number.to_string().parse(), Ok(side));
+    }
+    for number in [0, 3, 26, u32::MAX] {
+        assert_eq!(Side::try_from(number), Err(Refusal::Side));
+    }
+    for text in ["", "0", "3", "01", "+1", "1 ", "Light", "dark ", "open"] {
+        assert_eq!(text.parse::<Side>(), Err(Refusal::Side));
+    }
+}
+
+#[test]
 fn connectivities_and_refusals_by_number() {
     for connectivity in Connectivity::ALL {
         assert_eq!(connectivity.number().try_into(), Ok(connectivity));
@@ -153,10 +182,9 @@ fn answers(work: &mut WorkSpace, plate: &Plate, connectivity: Connectivity, limi
         let (plate, cut) = (work.plate(&record), work.cut(&record, limit));
         (plate, cut, work.sizes(&record))
     });
+    let clean = Side::ALL.map(|side| work.clean(plate, side, connectivity, limit));
     format!(
-        "{:?} {:?} {:?} {:?} {record:?} {of_record:?} {joint:?}",
-        work.area_open(plate, connectivity, limit),
-        work.area_close(plate, connectivity, limit),
+        "{clean:?} {:?} {:?} {record:?} {of_record:?} {joint:?}",
         work.regional_maxima(plate, connectivity),
         work.nodes(plate, connectivity),
     )
@@ -192,7 +220,8 @@ fn too_many_greys() {
     let plate = Plate::new(1, 1, vec![0; livukoe::MAX_PIXELS + 1]);
     let mut work = WorkSpace::new();
     let refusal = Err(Refusal::PlateLength);
-    assert_eq!(work.area_open(&plate, Connectivity::Four, 1), refusal);
+    let clean = work.clean(&plate, Side::Light, Connectivity::Four, 1);
+    assert_eq!(clean, refusal);
     assert_eq!(work.pixels(), livukoe::MAX_PIXELS);
 }
 

@@ -25,8 +25,8 @@ use measure::Timing;
 use memory::Memory;
 use peers::{PeerTiming, Peers};
 
-/// The sides of the square pictures, from 64 K to 16 M pixels.
-const SIDES: [u32; 5] = [256, 512, 1024, 2048, 4096];
+/// The widths of the square pictures, from 64 K to 16 M pixels.
+const WIDTHS: [u32; 5] = [256, 512, 1024, 2048, 4096];
 
 struct Arguments {
     pixels: usize,
@@ -63,19 +63,19 @@ fn main() {
     let mut timings: Vec<Timing> = Vec::new();
     let mut peer_timings: Vec<PeerTiming> = Vec::new();
     let mut memory: Vec<Memory> = Vec::new();
-    let sides = SIDES.into_iter();
-    for side in sides.filter(|side| (side * side) as usize <= arguments.pixels) {
+    let widths = WIDTHS.into_iter();
+    for width in widths.filter(|width| (width * width) as usize <= arguments.pixels) {
         for kind in pictures::KINDS {
-            let plate = picture(kind, side, side);
+            let plate = picture(kind, width, width);
             for connectivity in [Connectivity::Four, Connectivity::Eight] {
                 timings.extend(measure::all(kind, &plate, connectivity));
             }
             if plate.greys().len() <= arguments.peer_pixels {
                 peer_timings.extend(peers.all(kind, &plate));
             }
-            eprintln!("{kind}, {side} x {side}: done");
+            eprintln!("{kind}, {width} x {width}: done");
         }
-        memory.push(memory::measure((side * side) as usize));
+        memory.push(memory::measure((width * width) as usize));
         write(&arguments.out, &timings, &peer_timings, &memory); // each size, so that a run that is cut short leaves something
     }
 }

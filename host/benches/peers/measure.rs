@@ -3,7 +3,7 @@
 use livukoe::{Connectivity, Plate};
 
 use crate::clock;
-use crate::operations::{Bench, Worker, OPERATIONS, WORKERS};
+use crate::operations::{Bench, Worker, CLEAN_LIGHT, OPERATIONS, WORKERS};
 
 /// The best times of an operation on a picture, by worker.
 pub struct Timing {
@@ -16,7 +16,7 @@ pub struct Timing {
 
 /// Operations that go by the connectivity differently are measured for both.
 fn measured(operation: &str, connectivity: Connectivity) -> bool {
-    connectivity == Connectivity::Four || operation == "open"
+    connectivity == Connectivity::Four || operation == CLEAN_LIGHT
 }
 
 /// More runs where they are short.

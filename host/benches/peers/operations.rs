@@ -1,17 +1,38 @@
 //! Each operation, proved and in plain Rust, over buffers that are allocated once.
 
 use livukoe::lent::{self as proved, Image, Node, NodeColumns};
-use livukoe::{work_space, Connectivity, Plate};
+use livukoe::{work_space, Connectivity, Plate, Side};
 
 use crate::{twin, twin_records};
 
-/// The limit of openings, closings and cuts.
+/// The limit of cleanings and cuts.
 pub const LIMIT: u32 = 64;
+
+/// Cleaning on the light side, which the peers' area opening is compared with.
+pub const CLEAN_LIGHT: &str = "clean light";
+const CLEAN_DARK: &str = "clean dark";
 
 /// The operations, in the order of the tables.
 pub const OPERATIONS: [&str; 10] = [
-    "open", "close", "maxima", "nodes", "columns", "record", "plate", "cut", "sizelist", "read",
+    CLEAN_LIGHT,
+    CLEAN_DARK,
+    "maxima",
+    "nodes",
+    "columns",
+    "record",
+    "plate",
+    "cut",
+    "sizelist",
+    "read",
 ];
+
+/// The side of a cleaning.
+fn side_of(operation: &str) -> Side {
+    match operation {
+        CLEAN_DARK => Side::Dark,
+        _ => Side::Light,
+    }
+}
 
 /// Who does the work.
 #[derive(Clone, Copy, PartialEq)]
@@ -79,8 +100,10 @@ impl<'a> Bench<'a> {
     fn run_proved(&mut self, operation: &str) {
         let lent = self.parts();
         let refusal = match operation {
-            "open" => proved::area_open(lent.image, LIMIT, lent.greys, lent.work),
-            "close" => proved::area_close(lent.image, LIMIT, lent.greys, lent.work),
+            CLEAN_LIGHT | CLEAN_DARK => {
+                let side = side_of(operation).number();
+                proved::clean(side, lent.image, LIMIT, lent.greys, lent.work)
+            }
             "maxima" => proved::regional_maxima(lent.image, lent.greys, lent.work),
             "columns" => proved::node_list(lent.image, lent.columns, lent.work).refusal,
             "nodes" => proved::node_entries(lent.image, lent.list, lent.work).refusal,
@@ -99,8 +122,10 @@ impl<'a> Bench<'a> {
     fn run_twin<const CHECKED: bool>(&mut self, operation: &str) {
         let lent = self.parts();
         match operation {
-            "open" => twin::area_open::<CHECKED>(lent.image, LIMIT, lent.greys, lent.work),
-            "close" => twin::area_close::<CHECKED>(lent.image, LIMIT, lent.greys, lent.work),
+            CLEAN_LIGHT | CLEAN_DARK => {
+                let side = side_of(operation);
+                twin::clean::<CHECKED>(side, lent.image, LIMIT, lent.greys, lent.work);
+            }
             "maxima" => twin::regional_maxima::<CHECKED>(lent.image, lent.greys, lent.work),
             "nodes" => twin::node_entries::<CHECKED>(lent.image, lent.list, lent.work),
             "columns" => twin::node_list::<CHECKED>(lent.image, lent.columns, lent.work),

@@ -4,7 +4,7 @@ use std::fs;
 use std::path::{Path, PathBuf};
 use std::process::Command;
 
-use livukoe::{Connectivity, Plate};
+use livukoe::{Connectivity, Plate, Side};
 
 use crate::operations::LIMIT;
 
@@ -15,7 +15,7 @@ pub struct PeerTiming {
     pub pixels: usize,
     /// None where it crashed.
     pub seconds: Option<f64>,
-    /// How many pixels of its opening differ from the proved one.
+    /// How many pixels of its opening differ from the plate that the proved function cleaned.
     pub differing: usize,
 }
 
@@ -57,14 +57,14 @@ impl Peers {
         let input = self.folder.join("plate.pgm");
         let header = plate.pgm_header();
         fs::write(&input, [header.as_bytes(), plate.greys()].concat()).expect("a plate file");
-        let opened = plate.area_open(Connectivity::Four, LIMIT);
-        let opened = opened.expect("an opening");
+        let clean = plate.clean(Side::Light, Connectivity::Four, LIMIT);
+        let clean = clean.expect("a clean plate");
         let measure = |(peer, words): &(&'static str, Vec<PathBuf>)| {
             let output = self.folder.join("answer.raw");
             let _ = fs::remove_file(&output); // there is none at first
             let seconds = run(words, &input, &output, plate.greys().len());
             let answer = fs::read(&output).unwrap_or_default();
-            let pairs = answer.iter().zip(opened.greys());
+            let pairs = answer.iter().zip(clean.greys());
             PeerTiming {
                 peer,
                 kind,

@@ -1,8 +1,10 @@
-//! A plot of the time of area opening against the number of pixels, both by powers of ten, as SVG.
+//! A plot of the time of cleaning on the light side (area opening) against the number of pixels, both by powers of ten,
+//! as SVG.
 
 use livukoe::Connectivity;
 
 use crate::measure::Timing;
+use crate::operations::CLEAN_LIGHT;
 use crate::peers::{PeerTiming, ITK_OPENING, SCIKIT_OPENING};
 use crate::report::size_name;
 
@@ -22,9 +24,9 @@ pub fn svg(timings: &[Timing], peers: &[PeerTiming]) -> String {
          font-size=\"12\">\n<rect width=\"{WIDTH}\" height=\"{HEIGHT}\" fill=\"white\"/>\n"
     );
     text += &axes();
-    let proved = timings
-        .iter()
-        .filter(|timing| timing.operation == "open" && timing.connectivity == Connectivity::Four);
+    let proved = timings.iter().filter(|timing| {
+        timing.operation == CLEAN_LIGHT && timing.connectivity == Connectivity::Four
+    });
     let proved = proved.map(|timing| (timing.kind, (timing.pixels, timing.seconds[0])));
     text += &lines(proved.collect(), "#1f5fa8", "Livukoe", 0);
     for (number, (peer, colour)) in [(ITK_OPENING, "#d07a1c"), (SCIKIT_OPENING, "#3c8f4a")]
@@ -108,7 +110,8 @@ fn axes() -> String {
         );
     }
     text + &format!(
-        "<text x=\"{}\" y=\"{}\" text-anchor=\"middle\">pixels; processor time of area opening, connectivity 4</text>\n",
+        "<text x=\"{}\" y=\"{}\" text-anchor=\"middle\">pixels; processor time of cleaning on the light side (area \
+         opening), connectivity 4</text>\n",
         WIDTH / 2.0,
         foot + 40.0
     )

@@ -9,7 +9,7 @@ use livukoe::Connectivity;
 
 use crate::measure::Timing;
 use crate::memory::Memory;
-use crate::operations::{LIMIT, OPERATIONS};
+use crate::operations::{CLEAN_LIGHT, LIMIT, OPERATIONS};
 use crate::peers::{PeerTiming, ITK_OPENING, SCIKIT_OPENING, SCIKIT_TREE};
 
 /// What is ahead of the tables.
@@ -166,9 +166,9 @@ fn peer_table(timings: &[Timing], peers: &[PeerTiming]) -> String {
     }
     let largest = peers.iter().map(|timing| timing.pixels).max().unwrap_or(0);
     let mut text = format!(
-        "How many times as long a peer takes, on {} pixels, connectivity 4, limit {LIMIT}: area opening against `open`, \
-         the tree against `nodes`. In brackets: how many pixels of its opening are wrong.\n\n\
-         | picture | `open`, s | `nodes`, s | {ITK_OPENING} | {SCIKIT_OPENING} | {SCIKIT_TREE} |\n\
+        "How many times as long a peer takes, on {} pixels, connectivity 4, limit {LIMIT}: area opening against \
+         `{CLEAN_LIGHT}`, the tree against `nodes`. In brackets: how many pixels of its opening are wrong.\n\n\
+         | picture | `{CLEAN_LIGHT}`, s | `nodes`, s | {ITK_OPENING} | {SCIKIT_OPENING} | {SCIKIT_TREE} |\n\
          |---|---|---|---|---|---|\n",
         size_name(largest)
     );
@@ -179,11 +179,11 @@ fn peer_table(timings: &[Timing], peers: &[PeerTiming]) -> String {
             });
             rows.next().map_or(f64::NAN, |timing| timing.seconds[0])
         };
-        let (open, nodes) = (own("open"), own("nodes"));
-        text += &format!("| {kind} | {open:.3} | {nodes:.3} |");
+        let (clean, nodes) = (own(CLEAN_LIGHT), own("nodes"));
+        text += &format!("| {kind} | {clean:.3} | {nodes:.3} |");
         for (peer, ours) in [
-            (ITK_OPENING, open),
-            (SCIKIT_OPENING, open),
+            (ITK_OPENING, clean),
+            (SCIKIT_OPENING, clean),
             (SCIKIT_TREE, nodes),
         ] {
             let mut rows = peers.iter().filter(|timing| {

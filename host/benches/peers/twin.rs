@@ -4,6 +4,7 @@
 use std::ops::{Index, IndexMut};
 
 use livukoe::lent::{Image, Node, NodeColumns};
+use livukoe::Side;
 
 const LEVELS: usize = 256;
 
@@ -429,14 +430,14 @@ pub fn write_values<const CHECKED: bool>(
     }
 }
 
-fn clean<const CHECKED: bool>(
+pub fn clean<const CHECKED: bool>(
+    side: Side,
     image: Image,
-    negated: bool,
     limit: u32,
     out: &mut [u8],
     work: &mut [u32],
 ) {
-    let pixels = image.greys.len();
+    let (pixels, negated) = (image.greys.len(), side == Side::Dark);
     let count = plate_tree::<CHECKED>(image, negated, work);
     let mut columns = Columns::<CHECKED>::of(work, pixels);
     for v in 0..count {
@@ -448,14 +449,6 @@ fn clean<const CHECKED: bool>(
     }
     write_values::<CHECKED>(work, pixels, negated, out);
     clear(work, pixels);
-}
-
-pub fn area_open<const CHECKED: bool>(image: Image, limit: u32, out: &mut [u8], work: &mut [u32]) {
-    clean::<CHECKED>(image, false, limit, out, work);
-}
-
-pub fn area_close<const CHECKED: bool>(image: Image, limit: u32, out: &mut [u8], work: &mut [u32]) {
-    clean::<CHECKED>(image, true, limit, out, work);
 }
 
 pub fn regional_maxima<const CHECKED: bool>(image: Image, out: &mut [u8], work: &mut [u32]) {

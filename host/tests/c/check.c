@@ -39,22 +39,40 @@ static int all(const void *bytes, int value, size_t length)
 
 static void check_cleaning(void)
 {
-    const uint8_t opened[PIXELS] = {10, 10, 10, 10, 10, 30, 30, 10, 10, 10, 10, 10};
-    const uint8_t closed[PIXELS] = {30, 30, 30, 30, 30, 50, 30, 30, 30, 30, 30, 90};
+    const uint8_t light[PIXELS] = {10, 10, 10, 10, 10, 30, 30, 10, 10, 10, 10, 10};
+    const uint8_t dark[PIXELS] = {30, 30, 30, 30, 30, 50, 30, 30, 30, 30, 30, 90};
     uint8_t *out = filled(PIXELS + 1);
     uint32_t *work = filled((WORK + 1) * sizeof *work);
-    EXPECT(livukoe_area_open(SMALL, PIXELS, WIDTH, HEIGHT, 5, 2, out, PIXELS, work, WORK) == LIVUKOE_CONNECTIVITY);
-    EXPECT(livukoe_area_open(SMALL, PIXELS, 0, HEIGHT, 4, 2, out, PIXELS, work, WORK) == LIVUKOE_GRID);
-    EXPECT(livukoe_area_open(SMALL, PIXELS - 1, WIDTH, HEIGHT, 4, 2, out, PIXELS, work, WORK) == LIVUKOE_PLATE_LENGTH);
-    EXPECT(livukoe_area_open(SMALL, PIXELS, WIDTH, HEIGHT, 4, 13, out, PIXELS, work, WORK) == LIVUKOE_LIMIT);
-    EXPECT(livukoe_area_open(SMALL, PIXELS, WIDTH, HEIGHT, 4, 2, out, PIXELS - 1, work, WORK) == LIVUKOE_OUTPUT_SHORT);
-    EXPECT(livukoe_area_open(SMALL, PIXELS, WIDTH, HEIGHT, 4, 2, out, PIXELS, work, WORK - 1) == LIVUKOE_WORK_SHORT);
-    EXPECT(all(out, 77, PIXELS + 1) && all(work, 77, (WORK + 1) * sizeof *work));
-    EXPECT(livukoe_area_open(SMALL, PIXELS, WIDTH, HEIGHT, 4, 2, out, PIXELS + 1, work, WORK + 1) == 0);
-    EXPECT(memcmp(out, opened, PIXELS) == 0 && out[PIXELS] == 77);
+    EXPECT(
+        livukoe_clean(LIVUKOE_SIDE_LIGHT, SMALL, PIXELS, WIDTH, HEIGHT, 4, 2, out, PIXELS + 1, work, WORK + 1) == 0);
+    EXPECT(memcmp(out, light, PIXELS) == 0 && out[PIXELS] == 77);
     EXPECT(all(work, 0, WORK * sizeof *work) && all(work + WORK, 77, sizeof *work));
-    EXPECT(livukoe_area_close(SMALL, PIXELS, WIDTH, HEIGHT, 4, 10, out, PIXELS, work, WORK) == 0);
-    EXPECT(memcmp(out, closed, PIXELS) == 0);
+    EXPECT(livukoe_clean(LIVUKOE_SIDE_DARK, SMALL, PIXELS, WIDTH, HEIGHT, 4, 10, out, PIXELS, work, WORK) == 0);
+    EXPECT(memcmp(out, dark, PIXELS) == 0);
+    free(out);
+    free(work);
+}
+
+/* Every refusal of cleaning; that of a side that is neither 1 nor 2 comes ahead of the others. Nothing is written. */
+static void check_refusals_of_cleaning(void)
+{
+    static const uint32_t sides[5] = {LIVUKOE_SIDE_LIGHT, LIVUKOE_SIDE_DARK, 0, 3, UINT32_MAX};
+    uint8_t *out = filled(PIXELS);
+    uint32_t *work = filled(WORK * sizeof *work);
+    for (int s = 0; s < 5; s++) {
+        const int known = s < 2;
+#define REFUSED(refusal, ...) EXPECT(livukoe_clean(sides[s], SMALL, __VA_ARGS__) == (known ? refusal : LIVUKOE_SIDE))
+        REFUSED(LIVUKOE_CONNECTIVITY, PIXELS, WIDTH, HEIGHT, 5, 2, out, PIXELS, work, WORK);
+        REFUSED(LIVUKOE_GRID, PIXELS, 0, HEIGHT, 4, 2, out, PIXELS, work, WORK);
+        REFUSED(LIVUKOE_PLATE_LENGTH, PIXELS - 1, WIDTH, HEIGHT, 4, 2, out, PIXELS, work, WORK);
+        REFUSED(LIVUKOE_LIMIT, PIXELS, WIDTH, HEIGHT, 4, 13, out, PIXELS, work, WORK);
+        REFUSED(LIVUKOE_OUTPUT_SHORT, PIXELS, WIDTH, HEIGHT, 4, 2, out, PIXELS - 1, work, WORK);
+        REFUSED(LIVUKOE_WORK_SHORT, PIXELS, WIDTH, HEIGHT, 4, 2, out, PIXELS, work, WORK - 1);
+        if (!known)
+            REFUSED(LIVUKOE_SIDE, PIXELS, WIDTH, HEIGHT, 4, 2, out, PIXELS, work, WORK);
+#undef REFUSED
+    }
+    EXPECT(all(out, 77, PIXELS) && all(work, 77, WORK * sizeof *work));
     free(out);
     free(work);
 }
@@ -170,10 +188,23 @@ static void check_joint(void)
     free(losses);
 }
 
-/* Every operation on a plate of chance, large enough for each column to be a block of memory of its own. */
+/* A plate of chance, large enough for each column to be a block of memory of its own. */
+enum { EXTENT = 97, MANY = EXTENT * EXTENT };
+
+static uint32_t clean_noise(uint32_t side, const uint8_t *image, uint32_t connectivity, uint8_t *out, uint32_t *work)
+{
+    return livukoe_clean(side, image, MANY, EXTENT, EXTENT, connectivity, 9, out, MANY, work, 8 * MANY);
+}
+
+static void negate(uint8_t *greys)
+{
+    for (int p = 0; p < MANY; p++)
+        greys[p] = 255 - greys[p];
+}
+
+/* Every operation on that plate. */
 static void check_noise(uint32_t connectivity)
 {
-    enum { SIDE = 97, MANY = SIDE * SIDE };
     uint8_t *image = filled(MANY), *out = filled(MANY), *again = filled(MANY);
     uint32_t *work = filled(8 * MANY * sizeof *work);
     uint32_t state = 1;
@@ -181,14 +212,19 @@ static void check_noise(uint32_t connectivity)
         state = state * 1664525 + 1013904223;
         image[p] = (uint8_t)(state >> 24);
     }
-    EXPECT(livukoe_area_open(image, MANY, SIDE, SIDE, connectivity, 9, out, MANY, work, 8 * MANY) == 0);
-    EXPECT(livukoe_area_open(out, MANY, SIDE, SIDE, connectivity, 9, again, MANY, work, 8 * MANY) == 0);
+    EXPECT(clean_noise(LIVUKOE_SIDE_LIGHT, image, connectivity, out, work) == 0);
+    EXPECT(clean_noise(LIVUKOE_SIDE_LIGHT, out, connectivity, again, work) == 0);
     EXPECT(memcmp(out, again, MANY) == 0);
-    EXPECT(livukoe_area_close(image, MANY, SIDE, SIDE, connectivity, 9, out, MANY, work, 8 * MANY) == 0);
-    EXPECT(livukoe_regional_maxima(image, MANY, SIDE, SIDE, connectivity, out, MANY, work, 8 * MANY) == 0);
+    /* the dark side of the negative is the negative of the light side */
+    negate(image);
+    EXPECT(clean_noise(LIVUKOE_SIDE_DARK, image, connectivity, again, work) == 0);
+    negate(again);
+    EXPECT(memcmp(out, again, MANY) == 0);
+    negate(image);
+    EXPECT(livukoe_regional_maxima(image, MANY, EXTENT, EXTENT, connectivity, out, MANY, work, 8 * MANY) == 0);
     uint8_t *bytes = filled(LIVUKOE_RECORD_BYTES(MANY));
     struct livukoe_record_length written = livukoe_write_record(
-        image, MANY, SIDE, SIDE, connectivity, bytes, LIVUKOE_RECORD_BYTES(MANY), work, LIVUKOE_WORK_NUMBERS(MANY));
+        image, MANY, EXTENT, EXTENT, connectivity, bytes, LIVUKOE_RECORD_BYTES(MANY), work, LIVUKOE_WORK_NUMBERS(MANY));
     EXPECT(written.refusal == 0);
     EXPECT(livukoe_read_record(bytes, written.length, out, MANY, work, 8 * MANY).refusal == 0);
     EXPECT(memcmp(out, image, MANY) == 0);
@@ -203,6 +239,7 @@ static void check_noise(uint32_t connectivity)
 int main(void)
 {
     check_cleaning();
+    check_refusals_of_cleaning();
     check_maxima_and_nodes();
     check_file();
     check_record();

@@ -127,14 +127,11 @@ static int done;
 #define WORK work, LIVUKOE_WORK_NUMBERS(plate->pixels)
 #define LIMIT limit_of(l, plate->pixels)
 
-static void area_open(void)
+/* On both sides, and on those that are neither. */
+static void clean(void)
 {
-    EACH_PLATE EACH_LIMIT done += livukoe_area_open(IMAGE, LIMIT, out, plate->pixels, WORK) == 0;
-}
-
-static void area_close(void)
-{
-    EACH_PLATE EACH_LIMIT done += livukoe_area_close(IMAGE, LIMIT, out, plate->pixels, WORK) == 0;
+    EACH_PLATE EACH_LIMIT for (uint32_t side = 0; side <= 3; side++) done +=
+        livukoe_clean(side, IMAGE, LIMIT, out, plate->pixels, WORK) == 0;
 }
 
 static void regional_maxima(void)
@@ -210,12 +207,12 @@ static const struct function {
     const char *name;
     void (*run)(void);
 } FUNCTIONS[] = {
-    {"livukoe_area_open", area_open},           {"livukoe_area_close", area_close},
-    {"livukoe_regional_maxima", regional_maxima}, {"livukoe_node_list", node_list},
-    {"livukoe_node_entries", node_entries},     {"livukoe_read_pgm", read_pgm},
-    {"livukoe_write_record", write_record},     {"livukoe_read_record", read_record},
-    {"livukoe_cut_record", cut_record},         {"livukoe_size_list", size_list},
-    {"livukoe_write_cut_list", write_cut_list}, {"livukoe_ink_percentage", ink_percentage},
+    {"livukoe_clean", clean},                   {"livukoe_regional_maxima", regional_maxima},
+    {"livukoe_node_list", node_list},           {"livukoe_node_entries", node_entries},
+    {"livukoe_read_pgm", read_pgm},             {"livukoe_write_record", write_record},
+    {"livukoe_read_record", read_record},       {"livukoe_cut_record", cut_record},
+    {"livukoe_size_list", size_list},           {"livukoe_write_cut_list", write_cut_list},
+    {"livukoe_ink_percentage", ink_percentage},
 };
 
 static unsigned char *stack;

@@ -53,9 +53,9 @@ impl Chance {
         T::try_from(self.next() % greys).unwrap_or_else(|_| unreachable!("every type holds a byte"))
     }
 
-    /// A small plate of few greys, so that patches nest and meet.
-    pub fn plate(&mut self, side: usize) -> Plate {
-        let (width, height) = (1 + self.below(side), 1 + self.below(side));
+    /// A small plate of few greys, so that patches nest and meet. Width and height are at most the extent.
+    pub fn plate(&mut self, extent: usize) -> Plate {
+        let (width, height) = (1 + self.below(extent), 1 + self.below(extent));
         let greys = self.pick(&[1, 2, 3, 5, 256]);
         let base = self.pick(&[0, 1, 7, 251]);
         let plate = (0..width * height)
@@ -70,8 +70,8 @@ impl Chance {
     }
 
     /// A small plate whose numbers are sometimes wrong.
-    pub fn job(&mut self, side: usize) -> Plate {
-        let mut plate = self.plate(side);
+    pub fn job(&mut self, extent: usize) -> Plate {
+        let mut plate = self.plate(extent);
         if self.one_in(12) {
             plate.connectivity = self.pick(&[0, 1, 3, 5, 6, 7, 9, 260, u32::MAX]);
         }

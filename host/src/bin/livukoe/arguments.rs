@@ -1,8 +1,9 @@
 //! What the command line asks for.
 
 use std::ffi::{OsStr, OsString};
+use std::str::FromStr;
 
-use livukoe::Connectivity;
+use livukoe::{Connectivity, Side};
 
 use crate::names::shown;
 
@@ -17,8 +18,7 @@ pub enum Request {
 /// What a command does.
 #[derive(Clone, Copy, Debug, PartialEq)]
 pub enum Verb {
-    Open,
-    Close,
+    Clean,
     Maxima,
     Nodes,
     Record,
@@ -31,6 +31,8 @@ pub enum Verb {
 #[derive(Debug, PartialEq)]
 pub struct Command {
     pub verb: Verb,
+    /// None where the command takes none.
+    pub side: Option<Side>,
     /// 0 where the command takes none.
     pub limit: Limit,
     pub connectivity: Connectivity,
@@ -52,6 +54,7 @@ pub struct Limit {
 struct Form {
     name: &'static str,
     verb: Verb,
+    side: bool,
     limit: bool,
     connectivity: bool,
     output: bool,
@@ -59,28 +62,21 @@ struct Form {
     about: &'static str,
 }
 
-const FORMS: [Form; 8] = [
+const FORMS: [Form; 7] = [
     Form {
-        name: "open",
-        verb: Verb::Open,
+        name: "clean",
+        verb: Verb::Clean,
+        side: true,
         limit: true,
         connectivity: true,
         output: true,
-        line: "open  --limit N [--connectivity 4|8] IN.pgm OUT.pgm",
-        about: "take away light patches of fewer than N pixels (area opening)",
-    },
-    Form {
-        name: "close",
-        verb: Verb::Close,
-        limit: true,
-        connectivity: true,
-        output: true,
-        line: "close --limit N [--connectivity 4|8] IN.pgm OUT.pgm",
-        about: "take away dark patches of fewer than N pixels (area closing)",
+        line: "clean --side light|dark --limit N [--connectivity 4|8] IN.pgm OUT.pgm",
+        about: "take away light (dark) patches of fewer than N pixels",
     },
     Form {
         name: "maxima",
         verb: Verb::Maxima,
+        side: false,
         limit: false,
         connectivity: true,
         output: true,
@@ -90,6 +86,7 @@ const FORMS: [Form; 8] = [
     Form {
         name: "nodes",
         verb: Verb::Nodes,
+        side: false,
         limit: false,
         connectivity: true,
         output: false,
@@ -99,6 +96,7 @@ const FORMS: [Form; 8] = [
     Form {
         name: "record",
         verb: Verb::Record,
+        side: false,
         limit: false,
         connectivity: true,
         output: true,
@@ -108,6 +106,7 @@ const FORMS: [Form; 8] = [
     Form {
         name: "plate",
         verb: Verb::Plate,
+        side: false,
         limit: false,
         connectivity: false,
         output: true,
@@ -117,21 +116,29 @@ const FORMS: [Form; 8] = [
     Form {
         name: "cut",
         verb: Verb::Cut,
+        side: false,
         limit: true,
         connectivity: false,
         output: true,
         line: "cut    --limit N IN.rec OUT.pgm",
-        about: "the plate of a record, opened at N under the record's connectivity",
+        about: "the plate of a record without light patches of fewer than N pixels, under its connectivity",
     },
     Form {
         name: "sizelist",
         verb: Verb::SizeList,
+        side: false,
         limit: false,
         connectivity: true,
         output: false,
         line: "sizelist [--connectivity 4|8] IN.pgm",
         about: "how many nodes have each area, and the grey that goes with them",
     },
+];
+
+/// The commands that were there before, and what is written in their place.
+const GONE: [(&str, &str); 2] = [
+    ("open", "clean --side light"),
+    ("close", "clean --side dark"),
 ];
 
 /// The text of `--help`.
@@ -141,7 +148,7 @@ pub fn help() -> String {
         text += &format!("  livukoe {}\n          {}\n", form.line, form.about);
     }
     text += "
-A file named - is standard input or output. The connectivity is 4 (shared sides) unless it is given.
+A file named - is standard input or output. The connectivity is 4 (left, right, above, below) unless it is given.
 An OUT that is write-protected is left as it is, except with --force, which replaces it.
 IN.pgm is a binary PGM (P5) with the greatest grey 255, of up to 32768 x 32768 and 16777216 pixels.
 
@@ -162,7 +169,7 @@ pub fn parse(mut words: impl Iterator<Item = OsString>) -> Result<Request, Strin
     let form = FORMS
         .iter()
         .find(|form| first == form.name)
-        .ok_or_else(|| format!("there is no command {}", shown(&first)))?;
+        .ok_or_else(|| no_command(&first))?;
     let given = Given::read(words)?;
     if given.help {
         return Ok(Request::Help);
@@ -170,11 +177,20 @@ pub fn parse(mut words: impl Iterator<Item = OsString>) -> Result<Request, Strin
     given.into_command(form).map(Request::Run)
 }
 
+fn no_command(name: &OsStr) -> String {
+    let none = format!("there is no command {}", shown(name));
+    match GONE.iter().find(|(gone, _)| name == *gone) {
+        Some((_, instead)) => format!("{none}; write {instead}"),
+        None => none,
+    }
+}
+
 /// The words after a command's name.
 #[derive(Default)]
 struct Given {
     help: bool,
     force: bool,
+    side: Option<Side>,
     limit: Option<Limit>,
     connectivity: Option<Connectivity>,
     files: Vec<OsString>,
@@ -225,22 +241,34 @@ impl Given {
             word.ok_or_else(|| format!("{name} lacks its value"))
         };
         match name {
+            "--side" => {
+                let side = one_of_two("side", &value()?, "light nor dark")?;
+                once(name, self.side.replace(side).is_none())
+            }
             "--limit" => once(name, self.limit.replace(limit(value()?)?).is_none()),
             "--connectivity" => {
-                let number = connectivity(&value()?)?;
-                once(name, self.connectivity.replace(number).is_none())
+                let connectivity = one_of_two("connectivity", &value()?, "4 nor 8")?;
+                once(name, self.connectivity.replace(connectivity).is_none())
             }
             _ => Err(format!("there is no option {}", shown(OsStr::new(name)))),
         }
     }
 
-    /// The command of a form, whose arguments are all there and no others.
-    fn into_command(self, form: &Form) -> Result<Command, String> {
+    /// Whether the options are those of a form: what it needs is there, and nothing that it does not take.
+    fn check_options(&self, form: &Form) -> Result<(), String> {
         let name = form.name;
-        if form.limit && self.limit.is_none() {
-            return Err(format!("{name} lacks --limit"));
+        let lacking = [
+            (
+                "--side light or --side dark",
+                form.side && self.side.is_none(),
+            ),
+            ("--limit", form.limit && self.limit.is_none()),
+        ];
+        if let Some((option, _)) = lacking.into_iter().find(|(_, lacking)| *lacking) {
+            return Err(format!("{name} lacks {option}"));
         }
         let unwanted = [
+            ("--side", self.side.is_some() && !form.side),
             ("--limit", self.limit.is_some() && !form.limit),
             (
                 "--connectivity",
@@ -251,6 +279,12 @@ impl Given {
         if let Some((option, _)) = unwanted.into_iter().find(|(_, unwanted)| *unwanted) {
             return Err(format!("{name} takes no {option}"));
         }
+        Ok(())
+    }
+
+    /// The command of a form, whose arguments are all there and no others.
+    fn into_command(self, form: &Form) -> Result<Command, String> {
+        self.check_options(form)?;
         let (wanted, files) = if form.output {
             (2, "IN and OUT")
         } else {
@@ -259,11 +293,13 @@ impl Given {
         if self.files.len() != wanted {
             let count = self.files.len();
             let are = if count == 1 { "file is" } else { "files are" };
+            let name = form.name;
             return Err(format!("{name} takes {files}, and {count} {are} given"));
         }
         let mut files = self.files.into_iter();
         Ok(Command {
             verb: form.verb,
+            side: self.side,
             limit: self.limit.unwrap_or_default(),
             connectivity: self.connectivity.unwrap_or_default(),
             force: self.force,
@@ -290,7 +326,8 @@ fn limit(word: OsString) -> Result<Limit, String> {
     Ok(Limit { number, given })
 }
 
-fn connectivity(word: &OsStr) -> Result<Connectivity, String> {
+/// The value of an option that has two, or what is wrong with it.
+fn one_of_two<T: FromStr>(name: &str, word: &OsStr, neither: &str) -> Result<T, String> {
     let known = word.to_str().and_then(|text| text.parse().ok());
-    known.ok_or_else(|| format!("the connectivity {} is neither 4 nor 8", shown(word)))
+    known.ok_or_else(|| format!("the {name} {} is neither {neither}", shown(word)))
 }

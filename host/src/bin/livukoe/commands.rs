@@ -11,8 +11,7 @@ use crate::words::Facts;
 
 pub fn run(command: &Command) -> Result<(), Failure> {
     match command.verb {
-        Verb::Open => from_plate(command, "opening", open),
-        Verb::Close => from_plate(command, "closing", close),
+        Verb::Clean => from_plate(command, "cleaning", clean),
         Verb::Maxima => from_plate(command, "marking maxima", maxima),
         Verb::Nodes => nodes(command),
         Verb::Record => record(command),
@@ -24,12 +23,9 @@ pub fn run(command: &Command) -> Result<(), Failure> {
     }
 }
 
-fn open(plate: &Plate, command: &Command) -> Result<Plate, Refusal> {
-    plate.area_open(command.connectivity, command.limit.number)
-}
-
-fn close(plate: &Plate, command: &Command) -> Result<Plate, Refusal> {
-    plate.area_close(command.connectivity, command.limit.number)
+fn clean(plate: &Plate, command: &Command) -> Result<Plate, Refusal> {
+    let side = command.side.ok_or(Refusal::Side)?;
+    plate.clean(side, command.connectivity, command.limit.number)
 }
 
 /// Marks as a picture: 255 inside a maximum.

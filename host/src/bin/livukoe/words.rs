@@ -1,6 +1,6 @@
 //! Refusals in words, with the figures of the case. A refusal without a row is told by what it means.
 
-use livukoe::{Record, Refusal, MAX_PIXELS, MAX_SIDE};
+use livukoe::{Record, Refusal, MAX_EXTENT, MAX_PIXELS};
 
 use crate::formats;
 use crate::header::{self, Header};
@@ -49,12 +49,12 @@ pub fn of(refusal: Refusal, facts: &Facts) -> String {
 
 fn grid(facts: &Facts) -> Option<String> {
     let Header { width, height, .. } = header::scan(facts.bytes).ok()?;
-    let side = 1..=u64::from(MAX_SIDE);
-    Some(if side.contains(&width) && side.contains(&height) {
+    let extent = 1..=u64::from(MAX_EXTENT);
+    Some(if extent.contains(&width) && extent.contains(&height) {
         let pixels = width * height;
         format!("{width} x {height} = {pixels} pixels; at most {MAX_PIXELS}")
     } else {
-        format!("{width} x {height} pixels; each side is 1 to {MAX_SIDE}")
+        format!("{width} x {height} pixels; width and height are each 1 to {MAX_EXTENT}")
     })
 }
 
