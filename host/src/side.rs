@@ -15,7 +15,6 @@ use crate::refusal::Refusal;
 /// assert_eq!(Side::try_from(3), Err(Refusal::Side));
 /// ```
 #[derive(Clone, Copy, Debug, PartialEq, Eq, Hash)]
-#[non_exhaustive]
 pub enum Side {
     /// Light patches.
     Light = 1,

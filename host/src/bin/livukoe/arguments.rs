@@ -71,7 +71,7 @@ const FORMS: [Form; 7] = [
         connectivity: true,
         output: true,
         line: "clean --side light|dark --limit N [--connectivity 4|8] IN.pgm OUT.pgm",
-        about: "take away light (dark) patches of fewer than N pixels",
+        about: "take away light (dark) patches of fewer than N pixels: area opening (closing)",
     },
     Form {
         name: "maxima",
