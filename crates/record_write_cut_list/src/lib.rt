@@ -24,7 +24,7 @@ fn refused(number: u32) -> CutListed
     }
 }
 
-// The refusal ahead of any work, by the sizes of all but the record: those of a plate, a limit and an output, with 5 for a table that is too short ahead of 6; else 0.
+// The refusal ahead of any work, by the sizes of all but the record: those of a plate, a limit and an output, with 5 for a short table ahead of 6; else 0.
 fn early_refusal(
     connectivity: u32,
     width: u32,

@@ -2,7 +2,7 @@
 use borrow.Author.Tests.{eq-eqb, ne-eqb}
 use Rattle.plate_refusals.proofs.side_fits.Statement.{statement}
 use Rattle.plate_refusals.proofs.side_fits.Tie as tie
-use Rattle.meaning.specs.Opening.{darkSide, lightSide, sideFits}
+use Rattle.meaning.specs.Opening.{lightSide, sideFits}
 
 returns : tie.Need-returns
 unfolding sideFits
