@@ -2,13 +2,13 @@
 use mathlib.Core.Path.{_≡_, refl, sym, ap, _∙_}
 use mathlib.Core.Logic.{_⊎_, inl, inr}
 use mathlib.Core.List.{List}
-use Prim.Native.Nat.{ℕ, _-_, _*_, _≤_}
+use Prim.Native.Nat.{ℕ, _*_, _≤_}
 use native.Mathlib.Omega.{arith}
-use lib.ListN.{length, length-map, take}
+use lib.ListN.{length, take}
 use Rattle.meaning.specs.Answers.{cleanRefusal}
 use Rattle.meaning.specs.Opening.{cleaned, closed, darkSide, lightSide, opened, sideFits}
-use Rattle.meaning.specs.Plate.{greatestGrey, negative}
-use Rattle.theorems.proofs.Plates.{closed-length, closed-negative, negative-twice, opened-length, opened-plate}
+use Rattle.meaning.specs.Plate.{negative}
+use Rattle.theorems.proofs.Plates.{closed-length, closed-negative, negative-length, negative-twice, opened-length, opened-plate}
 use Rattle.theorems.proofs.Theorems.{closed-is-least, opened-is-greatest}
 use Rattle.plate_refusals.proofs.Refusals.{Cleanable, clean-none}
 use Rattle.plate_filter.specs.Operations.{Cleaned}
@@ -57,10 +57,8 @@ module _ (limit : ℕ) {k w h : ℕ} {f out out′ work work′ : List ℕ} {r :
 module _ (limit : ℕ) {k w h : ℕ} {f out out′ work work′ lent lent′ space space′ : List ℕ} {r r′ : ℕ}
     (a : Cleaned lightSide k w h limit f out out′ work work′ r) (b : Cleaned darkSide k w h limit (negative f) lent lent′ space space′ r′) where
   alike : length lent ≡ length out → length space ≡ length work → r′ ≡ r
-  unfolding cleanRefusal negative sideFits
-  alike x y =
-      let n : length (negative f) ≡ length f = length-map f (λ (g : ℕ). greatestGrey - g) in
-      b .number ∙ rw (x, y, n) (sym (a .number))
+  unfolding cleanRefusal sideFits
+  alike x y = b .number ∙ rw (x, y, negative-length f) (sym (a .number))
 
   module _ (z : r ≡ 0) (z′ : r′ ≡ 0) where
     light-plate : take (w * h) out′ ≡ opened k w limit f

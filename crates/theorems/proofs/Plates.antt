@@ -37,6 +37,10 @@ table-grey f =
     ext-getD 0 (table (length f) (grey f)) f (length-table (length f) (grey f))
     (λ i l. getD-table (length f) (grey f) i 0 (rw (length-table (length f) (grey f)) at l))
 
+pub negative-length : (f : List ℕ) → length (negative f) ≡ length f
+unfolding negative
+negative-length f = length-map f (λ (g : ℕ). greatestGrey - g)
+
 -- ---- a plate
 
 module _ {k w h : ℕ} {f : List ℕ} (plate : Plate k w h f) where
@@ -57,10 +61,6 @@ module _ {k w h : ℕ} {f : List ℕ} (plate : Plate k w h f) where
 
   -- ---- the negative
 
-  pub negative-length : length (negative f) ≡ length f
-  unfolding negative
-  negative-length = length-map f (λ (g : ℕ). greatestGrey - g)
-
   pub negative-grey : (p : ℕ) → p < length f → grey (negative f) p ≡ greatestGrey - grey f p
   unfolding negative
   negative-grey p l = getD-map (λ (g : ℕ). greatestGrey - g) f p l
@@ -69,8 +69,8 @@ module _ {k w h : ℕ} {f : List ℕ} (plate : Plate k w h f) where
   negative-plate = record {
     kind = plate .kind;
     sizes = plate .sizes;
-    long = negative-length ∙ plate .long;
-    greys = λ p l. omega (arith, negative-grey p (rw negative-length at l));
+    long = negative-length f ∙ plate .long;
+    greys = λ p l. omega (arith, negative-grey p (rw (negative-length f) at l));
   }
 
   -- ---- the opening
@@ -145,24 +145,24 @@ module _ {k w h : ℕ} {f : List ℕ} (plate : Plate k w h f) where
   pub negative-twice : negative (negative f) ≡ f
   negative-twice =
       let neg : Plate k w h (negative f) = negative-plate plate in
-      let e : length (negative (negative f)) ≡ length f = negative-length neg ∙ negative-length plate in
+      let e : length (negative (negative f)) ≡ length f = negative-length (negative f) ∙ negative-length f in
       ext-getD 0 (negative (negative f)) f e
       (λ p l.
       let m : p < length f = rw e at l in
-      omega (arith, negative-grey neg p (rw (negative-length plate) m), negative-grey plate p m, plate .greys p m))
+      omega (arith, negative-grey neg p (rw (negative-length f) m), negative-grey plate p m, plate .greys p m))
 
   pub closed-length : (limit : ℕ) → length (closed k w limit f) ≡ length f
   unfolding closed negative
   closed-length limit =
       length-map (opened k w limit (negative f)) (λ (g : ℕ). greatestGrey - g)
       ∙ opened-length (negative-plate plate) limit
-      ∙ negative-length plate
+      ∙ negative-length f
 
   pub closed-grey : (limit p : ℕ) → p < length f → grey (closed k w limit f) p ≡ greatestGrey - grey (opened k w limit (negative f)) p
   unfolding closed negative
   closed-grey limit p l =
       getD-map (λ (g : ℕ). greatestGrey - g) (opened k w limit (negative f)) p
-      (omega (arith, opened-length (negative-plate plate) limit, negative-length plate))
+      (omega (arith, opened-length (negative-plate plate) limit, negative-length f))
 
   -- closing the negative is the negative of opening
   pub closed-negative : (limit : ℕ) → closed k w limit (negative f) ≡ negative (opened k w limit f)

@@ -124,7 +124,7 @@ module _ {k w h : ℕ} {f : List ℕ} (plate : Plate k w h f) where
   pub closed-is-least : ClosedIsLeast k w h f
   closed-is-least limit t p m l =
       let neg : Plate k w h (negative f) = negative-plate plate in
-      let e : length (negative f) ≡ n = negative-length plate in
+      let e : length (negative f) ≡ n = negative-length f in
       let o : grey (opened k w limit (negative f)) p ≤ greatestGrey =
       opened-plate neg limit (omega arith) .greys p (omega (arith, opened-length neg limit)) in
       let c : greatestGrey - grey (closed k w limit f) p ≡ openedAt n near (atLeast (attribute n) limit) (grey (negative f)) p =
