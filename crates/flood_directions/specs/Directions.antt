@@ -1,4 +1,4 @@
--- Directions: the neighbours of a pixel, numbered so that the connectivity is the number of directions. 0 to 3 are the sides, 4 and 5 the upper
+-- Directions: the neighbours of a pixel, numbered so that the connectivity is the number of directions. 0 to 3 are by an edge, 4 and 5 the upper
 -- left and the lower right corner, 6 and 7 the other corners.
 use mathlib.Core.Path.{_≡_}
 use mathlib.Core.List.{[], _∷_}
@@ -13,7 +13,7 @@ across d = nth (2 ∷ 0 ∷ 1 ∷ 1 ∷ 0 ∷ 2 ∷ 2 ∷ 0 ∷ []) d
 abbrev pub down : ℕ → ℕ
 down d = nth (1 ∷ 1 ∷ 2 ∷ 0 ∷ 0 ∷ 2 ∷ 0 ∷ 2 ∷ []) d
 
--- q is the pixel next to p in direction d, on a plate of width w. Columns and rows are compared, so nothing wraps round an edge
+-- q is the pixel next to p in direction d, on a plate of width w. Columns and rows are compared, so nothing wraps round the border
 pub record Beside (w d p q : ℕ) : Type 0 where
   pub column : q % w + 1 ≡ p % w + across d
   pub row : q / w + 1 ≡ p / w + down d

@@ -263,7 +263,7 @@ fn lower_row(w: &mut [u32], t: &mut [u32], g: Shape, at: Pixel, h: usize) -> usi
     lower_right(w, t, g, at, h)
 }
 
-// Looks at the neighbours of `at` by a side, until the flood rises. The answer is h, or the level to which the flood has risen.
+// Looks at the neighbours of `at` by an edge, until the flood rises. The answer is h, or the level to which the flood has risen.
 fn four(w: &mut [u32], t: &mut [u32], g: Shape, at: Pixel, h: usize) -> usize
     requires { ⌜ Looking (g .connectivity) (g .width) (g .height) (g .n) (now w) (now t) h (at .x) (at .y) ⌝ }
     requires { ⌜ g .connectivity ≡ 4 ⌝ }
@@ -284,7 +284,7 @@ fn four(w: &mut [u32], t: &mut [u32], g: Shape, at: Pixel, h: usize) -> usize
     right(w, t, g, at, h)
 }
 
-// Looks at the neighbours of `at` by a side or a corner, until the flood rises. The answer is h, or the level to which the flood has risen.
+// Looks at the neighbours of `at` by an edge or a corner, until the flood rises. The answer is h, or the level to which the flood has risen.
 fn eight(w: &mut [u32], t: &mut [u32], g: Shape, at: Pixel, h: usize) -> usize
     requires { ⌜ Looking (g .connectivity) (g .width) (g .height) (g .n) (now w) (now t) h (at .x) (at .y) ⌝ }
     requires { ⌜ g .connectivity ≡ 8 ⌝ }

@@ -31,7 +31,7 @@ connectivityFits k = eqb k 4 || eqb k 8
 abbrev pub apart : ℕ → ℕ → ℕ
 apart a b = (a - b) + (b - a)
 
--- two pixels of a plate of width w touch: by a side (4), or by a side or a corner (8). Columns are compared, so nothing wraps round an edge
+-- two pixels of a plate of width w touch: by an edge (4), or by an edge or a corner (8). Columns are compared, so nothing wraps round the border
 unfoldable pub touch : ℕ → ℕ → ℕ → ℕ → Bool
 touch k w p q =
     let dx = apart (p % w) (q % w) in

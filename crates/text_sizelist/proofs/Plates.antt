@@ -28,7 +28,7 @@ use Rattle.record.specs.declared.Written.{Written}
 use Rattle.record.specs.Reading.{ListedSizes, sizeRefusal}
 use Rattle.record.specs.Writing.{WrittenRecord, writeAnswer, writeOut, writeRefusal}
 use Rattle.text_lines.specs.Lines.{decimal, line}
-use Rattle.text_sizelist.specs.Text.{areaLine, headLine, heldPixels, plateText, restLine, sides, sizeLine}
+use Rattle.text_sizelist.specs.Text.{areaLine, headLine, heldPixels, plateText, restLine, four, sizeLine}
 
 -- ---- the lines of areas
 
@@ -60,12 +60,12 @@ sizes-over n counted lost out out′ a b =
 abbrev pub answerText : SizeHead → List ℕ → List ℕ
 answerText s sizes = (headLine (s .width) (s .height) (s .connectivity) (s .nodes) ++ sizes) ++ restLine (s .darkest)
 
-module _ {w h : ℕ} {f : List ℕ} (pl : Plate sides w h f) where
+module _ {w h : ℕ} {f : List ℕ} (pl : Plate four w h f) where
   abbrev xs : List ℕ
-  xs = nodesOf sides w f
+  xs = nodesOf four w f
 
   abbrev bytes : List ℕ
-  bytes = recordOf sides w h f
+  bytes = recordOf four w h f
 
   few-nodes : length xs ≤ length f
   few-nodes = le-trans (distinct-area (length f) xs (nodes-distinct (plate-grid pl) (plate-nodes pl)) (plate-nodes pl .inside)) (area-le (length f) (elem xs))
@@ -73,15 +73,15 @@ module _ {w h : ℕ} {f : List ℕ} (pl : Plate sides w h f) where
   some-nodes : 0 < length xs
   some-nodes = some-node (plate-grid pl) (plate-nodes pl) 0 (plate-some pl)
 
-  node-three : (i : ℕ) → length (nodeFields (length f) (touch sides w) (grey f) xs i) ≡ 3
+  node-three : (i : ℕ) → length (nodeFields (length f) (touch four w) (grey f) xs i) ≡ 3
   unfolding nodeFields
   node-three i = refl
 
-  fields-length : length (fields sides w h f) ≡ 3 * length xs + 3 + length f
+  fields-length : length (fields four w h f) ≡ 3 * length xs + 3 + length f
   unfolding fields treeFields
   fields-length =
-      let g : ℕ → List ℕ = λ (i : ℕ). nodeFields (length f) (touch sides w) (grey f) xs (suc i) in
-      let o : ℕ → ℕ = own (length f) (touch sides w) (grey f) xs in
+      let g : ℕ → List ℕ = λ (i : ℕ). nodeFields (length f) (touch four w) (grey f) xs (suc i) in
+      let o : ℕ → ℕ = own (length f) (touch four w) (grey f) xs in
       omega (
         arith,
         length-append (gather (length xs - 1) g) (table (length f) o),
@@ -93,22 +93,22 @@ module _ {w h : ℕ} {f : List ℕ} (pl : Plate sides w h f) where
   -- at most 4,099 fields of at most five bytes
   pub record-short : length f ≤ heldPixels → length bytes ≤ 20495
   unfolding recordOf
-  record-short small = omega (arith, encode-most (fields sides w h f), fields-length, few-nodes)
+  record-short small = omega (arith, encode-most (fields four w h f), fields-length, few-nodes)
 
   -- the darkest grey is a grey
   pub darkest-low : darkest f < 256
   darkest-low = omega (arith, darkest-root pl, pl .greys (nth xs 0) (nth-inside (plate-grid pl) (plate-nodes pl) 0 some-nodes))
 
   plate-text-is : plateText w h f
-      ≡ (headLine w h sides (length xs) ++ gather (length f - 1) (sizeLine (counts sides w f) (losses sides w f))) ++ restLine (darkest f)
+      ≡ (headLine w h four (length xs) ++ gather (length f - 1) (sizeLine (counts four w f) (losses four w f))) ++ restLine (darkest f)
   unfolding plateText
   plate-text-is = refl
 
   -- ---- its record, as writing returns it
 
   module _ {out out′ work work′ : List ℕ} {r : Written} (a : length bytes ≤ length out) (b : 8 * (w * h) ≤ length work)
-      (x : WrittenRecord sides w h f out out′ work work′ r) where
-    not-refused : writeRefusal sides w h f out work ≡ 0
+      (x : WrittenRecord four w h f out out′ work work′ r) where
+    not-refused : writeRefusal four w h f out work ≡ 0
     unfolding writeRefusal treeRefusal
     not-refused =
         rw (pl .sizes, eq-eqb (length f) (w * h) (pl .long), le-ltb (length work) (8 * (w * h)) b, le-ltb (length out) (length bytes) a)
@@ -127,32 +127,32 @@ module _ {w h : ℕ} {f : List ℕ} (pl : Plate sides w h f) where
       (b : w * h - 1 ≤ length lost) (c : 8 * (w * h) ≤ length work)
       (x : ListedSizes (readOf given (length work)) counted counted′ lost lost′ work work′ r)
     where
-      listed : ListedSizes (plate sides w h f) counted counted′ lost lost′ work work′ r
+      listed : ListedSizes (plate four w h f) counted counted′ lost lost′ work work′ r
       listed = rw (same, read-there pl (length work) c) at x
 
-      none : sizeRefusal (plate sides w h f) (length counted) (length lost) ≡ 0
+      none : sizeRefusal (plate four w h f) (length counted) (length lost) ≡ 0
       none = rw (le-ltb (length counted) (w * h - 1) a, le-ltb (length lost) (w * h - 1) b)
 
-      head-is : r ≡ record { refusal = 0; width = w; height = h; connectivity = sides; nodes = length xs; darkest = darkest f }
+      head-is : r ≡ record { refusal = 0; width = w; height = h; connectivity = four; nodes = length xs; darkest = darkest f }
       head-is = listed .answer ∙ rw none
 
       pub listed-low : r .darkest < 256
       listed-low = omega (arith, ap (λ (s : SizeHead). s .darkest) head-is, darkest-low)
 
-      counts-length : length (counts sides w f) ≡ length f - 1
+      counts-length : length (counts four w f) ≡ length f - 1
       unfolding counts
-      counts-length = length-table (length f - 1) (λ (i : ℕ). countAt (length f) (touch sides w) (grey f) xs (attribute (length f)) (suc i))
+      counts-length = length-table (length f - 1) (λ (i : ℕ). countAt (length f) (touch four w) (grey f) xs (attribute (length f)) (suc i))
 
-      losses-length : length (losses sides w f) ≡ length f - 1
+      losses-length : length (losses four w f) ≡ length f - 1
       unfolding losses
-      losses-length = length-table (length f - 1) (λ (i : ℕ). lostAt (length f) (touch sides w) (grey f) xs (attribute (length f)) (suc i))
+      losses-length = length-table (length f - 1) (λ (i : ℕ). lostAt (length f) (touch four w) (grey f) xs (attribute (length f)) (suc i))
 
-      sizes-are : gather (length f - 1) (sizeLine counted′ lost′) ≡ gather (length f - 1) (sizeLine (counts sides w f) (losses sides w f))
+      sizes-are : gather (length f - 1) (sizeLine counted′ lost′) ≡ gather (length f - 1) (sizeLine (counts four w f) (losses four w f))
       sizes-are =
           rw (listed .count-table, listed .loss-table, none)
-          (sizes-over (length f - 1) (counts sides w f) (losses sides w f) counted lost counts-length losses-length)
+          (sizes-over (length f - 1) (counts four w f) (losses four w f) counted lost counts-length losses-length)
 
       pub listed-text : answerText r (gather (length f - 1) (sizeLine counted′ lost′)) ≡ plateText w h f
       listed-text =
           ap (λ (s : SizeHead). answerText s (gather (length f - 1) (sizeLine counted′ lost′))) head-is
-          ∙ ap (λ (l : List ℕ). (headLine w h sides (length xs) ++ l) ++ restLine (darkest f)) sizes-are ∙ sym plate-text-is
+          ∙ ap (λ (l : List ℕ). (headLine w h four (length xs) ++ l) ++ restLine (darkest f)) sizes-are ∙ sym plate-text-is

@@ -9,7 +9,7 @@ use Rattle.meaning.specs.Plate.{Plate, connectivityFits}
 use Rattle.meaning.specs.Record.{recordOf}
 use Rattle.theorems.proofs.Plates.{plate-some}
 use Rattle.text_lines.proofs.Pieces.{put-put}
-use Rattle.text_sizelist.specs.Text.{sides}
+use Rattle.text_sizelist.specs.Text.{four}
 use Rattle.text_sizelist.proofs.Plates.{listed-low, listed-text, record-short, written-bytes, written-length}
 use Rattle.text_sizelist.proofs.plate_text.Statement.{statement}
 use Rattle.text_sizelist.proofs.plate_text.Tie as tie
@@ -24,7 +24,7 @@ write-record-requires : tie.Need-write-record-requires
 write-record-requires c κs = search needs
 
 -- the image is a plate: its bytes are greys
-plate-of : (c : tie.After-shared-slice-known) → let a = c .before .args in Plate sides (a .width) (a .height) (now (a .image))
+plate-of : (c : tie.After-shared-slice-known) → let a = c .before .args in Plate four (a .width) (a .height) (now (a .image))
 unfolding connectivityFits
 plate-of c =
     let p = c .before .pre in
@@ -32,14 +32,14 @@ plate-of c =
 
 -- its record, as writing it answered
 written : (c : tie.After-write-record) → let a = c .before .before .before .before .before .args in
-    c .write-record .result .length ≡ length (recordOf sides (a .width) (a .height) (now (a .image)))
+    c .write-record .result .length ≡ length (recordOf four (a .width) (a .height) (now (a .image)))
 written c =
     let k = c .before .before .before .before in
     let p = k .before .pre in
     written-length (plate-of k) (record-short (plate-of k) (p .small)) (omega (arith, p .long, p .small)) (c .write-record .ensures)
 
 bytes-are : (c : tie.After-write-record) → let a = c .before .before .before .before .before .args in
-    take (c .write-record .result .length) (c .write-record .last .1 .1 .1 .1 .0) ≡ recordOf sides (a .width) (a .height) (now (a .image))
+    take (c .write-record .result .length) (c .write-record .last .1 .1 .1 .1 .0) ≡ recordOf four (a .width) (a .height) (now (a .image))
 bytes-are c =
     let k = c .before .before .before .before in
     let p = k .before .pre in
