@@ -177,12 +177,12 @@ pub record Looked (k wd ht n : ℕ) (w w′ t t′ : List ℕ) (h x y : ℕ) (Q 
 abbrev pub LookedIn : ℕ → ℕ → ℕ → ℕ → List ℕ → List ℕ → List ℕ → List ℕ → ℕ → ℕ → ℕ → ℕ → ℕ → Type 0
 LookedIn k wd ht n w w′ t t′ h x y d r = Looked k wd ht n w w′ t t′ h x y (λ (q : ℕ). Beside wd d (y * wd + x) q) r
 
--- the neighbours of p in the row above, and in the row below
-abbrev pub UpperRow : ℕ → ℕ → ℕ → Type 0
-UpperRow wd p q = (Beside wd 3 p q ⊎ Beside wd 4 p q) ⊎ Beside wd 6 p q
+-- q touches p, and lies in the row above; in the row below
+abbrev pub UpperRow : (k wd p q : ℕ) → Type 0
+UpperRow k wd p q = T (touch k wd p q) × (q / wd + 1 ≡ p / wd)
 
-abbrev pub LowerRow : ℕ → ℕ → ℕ → Type 0
-LowerRow wd p q = (Beside wd 2 p q ⊎ Beside wd 7 p q) ⊎ Beside wd 5 p q
+abbrev pub LowerRow : (k wd p q : ℕ) → Type 0
+LowerRow k wd p q = T (touch k wd p q) × (q / wd ≡ p / wd + 1)
 
 -- the current pixel is done, or the flood has risen to r
 pub record Visited (k wd ht n : ℕ) (w w′ t t′ : List ℕ) (r : ℕ) : Type 0 where

@@ -160,7 +160,7 @@ fn lower_right(w: &mut [u32], t: &mut [u32], g: Shape, at: Pixel, h: usize) -> u
     requires { ⌜ 5 < g .connectivity ⌝ }
     ensures { λ r. ⌜ LookedIn (g .connectivity) (g .width) (g .height) (g .n) (now (w .entry)) (now (w .exit)) (now (t .entry)) (now (t .exit)) h (at .x) (at .y) 5 r ⌝ }
 {
-    if g.width <= at.x + 1 {
+    if g.width < at.x + 2 {
         return h;
     }
     if g.height <= at.y + 1 {
@@ -232,15 +232,20 @@ fn lower_left(w: &mut [u32], t: &mut [u32], g: Shape, at: Pixel, h: usize) -> us
 // Looks at the neighbours of `at` in the row above, until the flood rises. The answer is h, or the level to which the flood has risen.
 fn upper_row(w: &mut [u32], t: &mut [u32], g: Shape, at: Pixel, h: usize) -> usize
     requires { ⌜ Looking (g .connectivity) (g .width) (g .height) (g .n) (now w) (now t) h (at .x) (at .y) ⌝ }
-    requires { ⌜ 6 < g .connectivity ⌝ }
-    ensures { λ r. ⌜ Looked (g .connectivity) (g .width) (g .height) (g .n) (now (w .entry)) (now (w .exit)) (now (t .entry)) (now (t .exit)) h (at .x) (at .y) (UpperRow (g .width) (at .y * g .width + at .x)) r ⌝ }
+    ensures { λ r. ⌜ Looked (g .connectivity) (g .width) (g .height) (g .n) (now (w .entry)) (now (w .exit)) (now (t .entry)) (now (t .exit)) h (at .x) (at .y) (UpperRow (g .connectivity) (g .width) (at .y * g .width + at .x)) r ⌝ }
 {
     let a = upper(w, t, g, at, h);
     if a != h {
         return a;
     }
+    if g.connectivity == 4 {
+        return a;
+    }
     let b = upper_left(w, t, g, at, h);
     if b != h {
+        return b;
+    }
+    if g.connectivity == 6 {
         return b;
     }
     upper_right(w, t, g, at, h)
@@ -249,47 +254,34 @@ fn upper_row(w: &mut [u32], t: &mut [u32], g: Shape, at: Pixel, h: usize) -> usi
 // Looks at the neighbours of `at` in the row below, until the flood rises. The answer is h, or the level to which the flood has risen.
 fn lower_row(w: &mut [u32], t: &mut [u32], g: Shape, at: Pixel, h: usize) -> usize
     requires { ⌜ Looking (g .connectivity) (g .width) (g .height) (g .n) (now w) (now t) h (at .x) (at .y) ⌝ }
-    requires { ⌜ 7 < g .connectivity ⌝ }
-    ensures { λ r. ⌜ Looked (g .connectivity) (g .width) (g .height) (g .n) (now (w .entry)) (now (w .exit)) (now (t .entry)) (now (t .exit)) h (at .x) (at .y) (LowerRow (g .width) (at .y * g .width + at .x)) r ⌝ }
+    ensures { λ r. ⌜ Looked (g .connectivity) (g .width) (g .height) (g .n) (now (w .entry)) (now (w .exit)) (now (t .entry)) (now (t .exit)) h (at .x) (at .y) (LowerRow (g .connectivity) (g .width) (at .y * g .width + at .x)) r ⌝ }
 {
     let a = lower(w, t, g, at, h);
     if a != h {
         return a;
     }
-    let b = lower_left(w, t, g, at, h);
-    if b != h {
-        return b;
-    }
-    lower_right(w, t, g, at, h)
-}
-
-// Looks at the neighbours of `at` by an edge, until the flood rises. The answer is h, or the level to which the flood has risen.
-fn four(w: &mut [u32], t: &mut [u32], g: Shape, at: Pixel, h: usize) -> usize
-    requires { ⌜ Looking (g .connectivity) (g .width) (g .height) (g .n) (now w) (now t) h (at .x) (at .y) ⌝ }
-    requires { ⌜ g .connectivity ≡ 4 ⌝ }
-    ensures { λ r. ⌜ Visited (g .connectivity) (g .width) (g .height) (g .n) (now (w .entry)) (now (w .exit)) (now (t .entry)) (now (t .exit)) r ⌝ }
-{
-    let a = upper(w, t, g, at, h);
-    if a != h {
+    if g.connectivity == 4 {
         return a;
     }
-    let b = lower(w, t, g, at, h);
+    let b = lower_right(w, t, g, at, h);
     if b != h {
         return b;
     }
-    let c = left(w, t, g, at, h);
-    if c != h {
-        return c;
+    if g.connectivity == 6 {
+        return b;
     }
-    right(w, t, g, at, h)
+    lower_left(w, t, g, at, h)
 }
 
-// Looks at the neighbours of `at` by an edge or a corner, until the flood rises. The answer is h, or the level to which the flood has risen.
-fn eight(w: &mut [u32], t: &mut [u32], g: Shape, at: Pixel, h: usize) -> usize
-    requires { ⌜ Looking (g .connectivity) (g .width) (g .height) (g .n) (now w) (now t) h (at .x) (at .y) ⌝ }
-    requires { ⌜ g .connectivity ≡ 8 ⌝ }
+// Looks at the neighbours of the pixel with the entry e, of the lightest open level h, until the flood rises: the level at which it goes on.
+pub fn visit(w: &mut [u32], t: &mut [u32], g: Shape, e: usize, h: usize) -> usize
+    requires { ⌜ Popped (g .connectivity) (g .width) (g .height) (g .n) (now w) (now t) h e ⌝ }
     ensures { λ r. ⌜ Visited (g .connectivity) (g .width) (g .height) (g .n) (now (w .entry)) (now (w .exit)) (now (t .entry)) (now (t .exit)) r ⌝ }
 {
+    let at = Pixel {
+        x: e % 65536,
+        y: e / 65536,
+    };
     let a = upper_row(w, t, g, at, h);
     if a != h {
         return a;
@@ -303,19 +295,4 @@ fn eight(w: &mut [u32], t: &mut [u32], g: Shape, at: Pixel, h: usize) -> usize
         return c;
     }
     right(w, t, g, at, h)
-}
-
-// Looks at the neighbours of the pixel with the entry e, of the lightest open level h, until the flood rises: the level at which it goes on.
-pub fn visit(w: &mut [u32], t: &mut [u32], g: Shape, e: usize, h: usize) -> usize
-    requires { ⌜ Popped (g .connectivity) (g .width) (g .height) (g .n) (now w) (now t) h e ⌝ }
-    ensures { λ r. ⌜ Visited (g .connectivity) (g .width) (g .height) (g .n) (now (w .entry)) (now (w .exit)) (now (t .entry)) (now (t .exit)) r ⌝ }
-{
-    let at = Pixel {
-        x: e % 65536,
-        y: e / 65536,
-    };
-    if g.connectivity == 4 {
-        return four(w, t, g, at, h);
-    }
-    eight(w, t, g, at, h)
 }

@@ -14,7 +14,7 @@ use Rattle.meaning.specs.Cut.{cut, counts, losses, total, darkest}
 use Rattle.meaning.specs.Record.{recordOf, encode}
 use Rattle.meaning.specs.Ink.{rounded, inkOf}
 use Rattle.meaning.specs.Answers.{cleanRefusal, filterRefusal, maximaRefusal, treeRefusal}
-use Rattle.meaning.specs.Examples.{small, run, workedCases, Case, edges, steps, places}
+use Rattle.meaning.specs.Examples.{small, run, workedCases, Case, diagonals, edges, neighbours, steps, places}
 
 -- every worked case of SPECIFICATION 10
 pub marked-hold : map (λ (c : Case). run (c .job)) workedCases ≡ map (λ (c : Case). c .answer) workedCases
@@ -53,10 +53,54 @@ pub small-cut : cut 4 4 2 small ≡ 10 ∷ 10 ∷ 10 ∷ 10 ∷ 10 ∷ 30 ∷ 30
 unfolding cut
 small-cut = refl
 
+-- ---- the three kinds of connectivity
+
+-- the neighbours of the pixel in the middle
+pub middle-four : neighbours 4 4 ≡ 0 ∷ 1 ∷ 0 ∷ 1 ∷ 0 ∷ 1 ∷ 0 ∷ 1 ∷ 0 ∷ []
+unfolding neighbours
+middle-four = refl
+
+pub middle-six : neighbours 6 4 ≡ 1 ∷ 1 ∷ 0 ∷ 1 ∷ 0 ∷ 1 ∷ 0 ∷ 1 ∷ 1 ∷ []
+unfolding neighbours
+middle-six = refl
+
+pub middle-eight : neighbours 8 4 ≡ 1 ∷ 1 ∷ 1 ∷ 1 ∷ 0 ∷ 1 ∷ 1 ∷ 1 ∷ 1 ∷ []
+unfolding neighbours
+middle-eight = refl
+
+-- with 6 no diagonal leads round the left or the right border: pixels 2 and 6 are 4 apart in the list, as a pixel and its lower right are
+pub corner-six : neighbours 6 2 ∷ neighbours 6 6 ∷ []
+    ≡ (0 ∷ 1 ∷ 0 ∷ 0 ∷ 0 ∷ 1 ∷ 0 ∷ 0 ∷ 0 ∷ []) ∷ (0 ∷ 0 ∷ 0 ∷ 1 ∷ 0 ∷ 0 ∷ 0 ∷ 1 ∷ 0 ∷ []) ∷ []
+unfolding neighbours
+corner-six = refl
+
+-- cleaned at limit 2, and its regional maxima marked, the plate with a pair on each diagonal differs with 4, 6 and 8
+pub diagonals-cleaned : cleaned lightSide 4 5 2 diagonals ∷ cleaned lightSide 6 5 2 diagonals ∷ cleaned lightSide 8 5 2 diagonals ∷ []
+    ≡ (0 ∷ 0 ∷ 0 ∷ 0 ∷ 0 ∷ 0 ∷ 0 ∷ 0 ∷ 0 ∷ 0 ∷ [])
+    ∷ (8 ∷ 0 ∷ 0 ∷ 0 ∷ 0 ∷ 0 ∷ 8 ∷ 0 ∷ 0 ∷ 0 ∷ [])
+    ∷ (8 ∷ 0 ∷ 0 ∷ 0 ∷ 8 ∷ 0 ∷ 8 ∷ 0 ∷ 8 ∷ 0 ∷ [])
+    ∷ []
+unfolding cleaned
+diagonals-cleaned = refl
+
+pub diagonals-marks : marks 4 5 diagonals ∷ marks 6 5 diagonals ∷ marks 8 5 diagonals ∷ []
+    ≡ (1 ∷ 0 ∷ 0 ∷ 0 ∷ 1 ∷ 0 ∷ 1 ∷ 0 ∷ 1 ∷ 0 ∷ [])
+    ∷ (1 ∷ 0 ∷ 0 ∷ 0 ∷ 1 ∷ 0 ∷ 0 ∷ 0 ∷ 1 ∷ 0 ∷ [])
+    ∷ (1 ∷ 0 ∷ 0 ∷ 0 ∷ 1 ∷ 0 ∷ 0 ∷ 0 ∷ 0 ∷ 0 ∷ [])
+    ∷ []
+unfolding marks
+diagonals-marks = refl
+
+-- the dark side on the negative
+pub diagonals-dark : cleaned darkSide 6 5 2 (negative diagonals) ≡ negative (cleaned lightSide 6 5 2 diagonals)
+unfolding cleaned negative
+diagonals-dark = refl
+
 -- ---- the slips
 
--- nothing wraps round an edge, with 4 or 8
-pub no-wrap : opened 4 3 2 edges ∷ opened 8 3 2 edges ∷ [] ≡ (0 ∷ 0 ∷ 0 ∷ 0 ∷ 0 ∷ 0 ∷ []) ∷ (0 ∷ 0 ∷ 0 ∷ 0 ∷ 0 ∷ 0 ∷ []) ∷ []
+-- nothing wraps round an edge, with 4, 6 or 8
+pub no-wrap : opened 4 3 2 edges ∷ opened 6 3 2 edges ∷ opened 8 3 2 edges ∷ []
+    ≡ (0 ∷ 0 ∷ 0 ∷ 0 ∷ 0 ∷ 0 ∷ []) ∷ (0 ∷ 0 ∷ 0 ∷ 0 ∷ 0 ∷ 0 ∷ []) ∷ (0 ∷ 0 ∷ 0 ∷ 0 ∷ 0 ∷ 0 ∷ []) ∷ []
 unfolding opened
 no-wrap = refl
 
@@ -96,10 +140,11 @@ unfolding inkOf
 ink-rest = refl
 
 -- limits 0 and 13 give 4; each other condition, with all later ones met too; nothing refused
-pub refusals : filterRefusal 4 4 3 0 12 12 96 ∷ filterRefusal 4 4 3 13 12 12 96 ∷ filterRefusal 5 0 3 0 11 0 0 ∷ filterRefusal 8 0 3 0 11 0 0
-    ∷ filterRefusal 8 4 3 0 11 0 0 ∷ filterRefusal 8 4 3 12 12 11 95 ∷ filterRefusal 8 4 3 12 12 12 95 ∷ filterRefusal 8 4 3 12 12 12 96
+pub refusals : filterRefusal 4 4 3 0 12 12 96 ∷ filterRefusal 4 4 3 13 12 12 96 ∷ filterRefusal 5 0 3 0 11 0 0 ∷ filterRefusal 7 0 3 0 11 0 0
+    ∷ filterRefusal 6 0 3 0 11 0 0 ∷ filterRefusal 8 0 3 0 11 0 0 ∷ filterRefusal 8 4 3 0 11 0 0 ∷ filterRefusal 8 4 3 12 12 11 95
+    ∷ filterRefusal 8 4 3 12 12 12 95 ∷ filterRefusal 8 4 3 12 12 12 96 ∷ filterRefusal 6 4 3 12 12 12 96
     ∷ maximaRefusal 4 4 3 12 11 0 ∷ treeRefusal 4 4 3 12 4 3 95 ∷ treeRefusal 4 4 3 12 4 3 96 ∷ []
-    ≡ 4 ∷ 4 ∷ 1 ∷ 2 ∷ 3 ∷ 5 ∷ 6 ∷ 0 ∷ 5 ∷ 6 ∷ 5 ∷ []
+    ≡ 4 ∷ 4 ∷ 1 ∷ 1 ∷ 2 ∷ 2 ∷ 3 ∷ 5 ∷ 6 ∷ 0 ∷ 0 ∷ 5 ∷ 6 ∷ 5 ∷ []
 unfolding filterRefusal maximaRefusal treeRefusal
 refusals = refl
 

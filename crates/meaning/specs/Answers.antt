@@ -31,7 +31,7 @@ workAfter began pixels work = pick began (replicate (8 * pixels) 0 ++ drop (8 * 
 abbrev pub sideRefusal : ℕ → ℕ → ℕ
 sideRefusal side later = refuse (not (sideFits side)) 26 later
 
--- 1 connectivity not 4 or 8; 2 width or height or pixels beyond the grid; 3 plate length not the pixels
+-- 1 connectivity not 4, 6 or 8; 2 width or height or pixels beyond the grid; 3 plate length not the pixels
 abbrev pub plateRefusal : ℕ → ℕ → ℕ → ℕ → ℕ → ℕ
 plateRefusal k w h plate later =
     refuse (not (connectivityFits k)) 1 (refuse (not (gridFits w h)) 2 (refuse (not (eqb plate (w * h))) 3 later))

@@ -3,6 +3,8 @@ use mathlib.Core.List.{List, [], _∷_}
 use Prim.Native.Nat.{ℕ}
 use Rattle.meaning.specs.Opening.{cleaned, lightSide, darkSide}
 use Rattle.meaning.specs.Ink.{inkOf}
+use Rattle.meaning.specs.Plate.{touch}
+use Rattle.meaning.specs.Sets.{bit, table}
 
 -- rows 10 10 10 10 / 10 50 30 10 / 10 10 10 90
 abbrev pub small : List ℕ
@@ -67,3 +69,14 @@ steps = 10 ∷ 30 ∷ 50 ∷ 30 ∷ 10 ∷ []
 -- one grey in three places: one row 5 0 5 0 5
 abbrev pub places : List ℕ
 places = 5 ∷ 0 ∷ 5 ∷ 0 ∷ 5 ∷ []
+
+-- ---- the three kinds of connectivity
+
+-- the neighbours of pixel p of three rows of three: 1 where a pixel touches it, else 0
+unfoldable pub neighbours : (k p : ℕ) → List ℕ
+unfolding table touch
+neighbours k p = table 9 (λ (q : ℕ). bit (touch k 3 p q))
+
+-- two light pixels on each diagonal: rows 9 0 0 0 9 / 0 8 0 8 0. The left pair touches with 6 and 8, the right pair with 8 only
+abbrev pub diagonals : List ℕ
+diagonals = 9 ∷ 0 ∷ 0 ∷ 0 ∷ 9 ∷ 0 ∷ 8 ∷ 0 ∷ 8 ∷ 0 ∷ []

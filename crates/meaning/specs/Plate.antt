@@ -23,20 +23,43 @@ maxPixels = 16777216
 unfoldable pub gridFits : ℕ → ℕ → Bool
 gridFits w h = (leb 1 w && leb w maxExtent) && ((leb 1 h && leb h maxExtent) && leb (w * h) maxPixels)
 
--- connectivity is 4 or 8
+-- connectivity is 4, 6 or 8
 unfoldable pub connectivityFits : ℕ → Bool
-connectivityFits k = eqb k 4 || eqb k 8
+connectivityFits k = eqb k 4 || (eqb k 6 || eqb k 8)
 
 -- how far apart two numbers are
 abbrev pub apart : ℕ → ℕ → ℕ
 apart a b = (a - b) + (b - a)
 
--- two pixels of a plate of width w touch: by an edge (4), or by an edge or a corner (8). Columns are compared, so nothing wraps round the border
-unfoldable pub touch : ℕ → ℕ → ℕ → ℕ → Bool
-touch k w p q =
-    let dx = apart (p % w) (q % w) in
-    let dy = apart (p / w) (q / w) in
-    pick (eqb k 4) (eqb (dx + dy) 1) (eqb (max dx dy) 1)
+-- ---- the pixel in column x of row y, and the pixel in column x′ of row y′
+
+-- they share an edge: their columns and rows differ by 1 in all
+abbrev pub byEdge : (x y x′ y′ : ℕ) → Bool
+byEdge x y x′ y′ = eqb (apart x x′ + apart y y′) 1
+
+-- they share an edge or a corner: neither columns nor rows differ by more than 1, and one of them differs
+abbrev pub byEdgeOrCorner : (x y x′ y′ : ℕ) → Bool
+byEdgeOrCorner x y x′ y′ = eqb (max (apart x x′) (apart y y′)) 1
+
+-- the second is the upper left of the first: one row up and one column left
+abbrev pub upperLeft : (x y x′ y′ : ℕ) → Bool
+upperLeft x y x′ y′ = eqb (y′ + 1) y && eqb (x′ + 1) x
+
+-- it is the lower right: one row down and one column right
+abbrev pub lowerRight : (x y x′ y′ : ℕ) → Bool
+lowerRight x y x′ y′ = eqb y′ (y + 1) && eqb x′ (x + 1)
+
+-- they share an edge, or the second is the upper left or the lower right of the first
+abbrev pub byEdgeOrDiagonal : (x y x′ y′ : ℕ) → Bool
+byEdgeOrDiagonal x y x′ y′ = byEdge x y x′ y′ || (upperLeft x y x′ y′ || lowerRight x y x′ y′)
+
+-- they touch, with connectivity 4, 6 or 8
+abbrev pub touchAt : (k x y x′ y′ : ℕ) → Bool
+touchAt k x y x′ y′ = pick (eqb k 4) (byEdge x y x′ y′) (pick (eqb k 6) (byEdgeOrDiagonal x y x′ y′) (byEdgeOrCorner x y x′ y′))
+
+-- pixels p and q of a plate of width w touch. Columns and rows are compared, so nothing wraps round the border
+unfoldable pub touch : (k w p q : ℕ) → Bool
+touch k w p q = touchAt k (p % w) (p / w) (q % w) (q / w)
 
 -- the grey of pixel p
 abbrev pub grey : List ℕ → ℕ → ℕ

@@ -19,11 +19,11 @@ fn side_fits(side: u32) -> bool
     side == LIGHT || side == DARK
 }
 
-// Is the connectivity 4 or 8?
+// Is the connectivity 4, 6 or 8?
 pub fn connectivity_fits(connectivity: u32) -> bool
     ensures { λ r. ⌜ r ≡ connectivityFits connectivity ⌝ }
 {
-    connectivity == 4 || connectivity == 8
+    connectivity == 4 || (connectivity == 6 || connectivity == 8)
 }
 
 // Is an extent, a width or a height, within the grid?

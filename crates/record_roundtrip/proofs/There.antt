@@ -1,24 +1,22 @@
 -- Reading what writing gives: the fields of a plate's record are in their ranges, and they spell the plate.
 use mathlib.Core.Path.{_≡_, refl, sym, ap, _∙_}
-use mathlib.Core.Logic.{inl, inr}
 use mathlib.Core.Bool.{Bool, true}
 use mathlib.Core.List.{List, [], _∷_, _++_, map, append-assoc, append-nil}
 use Prim.Native.Nat.{ℕ, zero, suc, _+_, _-_, _*_, _≤_, _<_}
 use native.Mathlib.Nat.{le-refl, le-trans, add-zero, add-suc, suc-add, zero-add}
 use native.Mathlib.Omega.{arith}
 use borrow.Author.Tests.{le-ltb, eq-eqb}
-use lib.Dec.{eqb, eqb→eq}
 use lib.ListN.{length, drop, length-drop}
 use Rattle.meaning.specs.Component.{grown, same}
 use Rattle.meaning.specs.Nodes.{areaOf, holds, levelOf, nodesOf, own, parent, rise}
 use Rattle.meaning.specs.Paths.{Grid}
-use Rattle.meaning.specs.Plate.{Plate, connectivityFits, greatestGrey, grey, maxPixels, maxExtent, touch}
+use Rattle.meaning.specs.Plate.{Plate, greatestGrey, grey, maxPixels, maxExtent, touch}
 use Rattle.meaning.specs.Record.{encode, fields, nodeFields, recordOf, treeFields, varint}
 use Rattle.meaning.specs.Sets.{area, elem, gather, nth, place, span, sum, table}
 use Rattle.theory_lists.proofs.Lists.{distinct-area, gather-cong, getD-table, length-table, table-suc}
 use Rattle.theory_lists.proofs.Sets.{area-le}
 use Rattle.theory_lists.proofs.Sums.{area-pos}
-use Rattle.theory_lists.proofs.Tests.{either-cases, passes}
+use Rattle.theory_connectivity.proofs.Connectivity.{kind-most}
 use Rattle.theory_tree.specs.Tree.{Nodes}
 use Rattle.theory_tree.proofs.Nodes.{nodes-distinct, nth-inside, over-holds, own-below, own-level, parent-below, parent-level, root-area, self-over, some-node}
 use Rattle.theorems.proofs.Plates.{plate-grid, plate-nodes, plate-sizes, plate-some, table-grey}
@@ -186,13 +184,6 @@ module _ {k w h : ℕ} {f : List ℕ} (pl : Plate k w h f) (s : List ℕ) where
 
 -- ---- the whole record
 
-kind-low : (k : ℕ) → connectivityFits k ≡ true → k ≤ 8
-unfolding connectivityFits
-kind-low k e = elim (either-cases (eqb k 4) (eqb k 8) (passes e)) [
-  | inl t ↦ omega (arith, eqb→eq k 4 t)
-  | inr t ↦ omega (arith, eqb→eq k 8 t)
-]
-
 module _ {k w h : ℕ} {f : List ℕ} (pl : Plate k w h f) where
   abbrev bytes : List ℕ
   bytes = recordOf k w h f
@@ -237,7 +228,7 @@ module _ {k w h : ℕ} {f : List ℕ} (pl : Plate k w h f) where
       let at₄ : ℕ = at₃ + length (varint count) in
       let at₅ : ℕ = at₄ + length (varint root) in
       let at₆ : ℕ = at₅ + length (varint (w * h)) in
-      let kind : k ≤ 8 = kind-low k (pl .kind) in
+      let kind : k ≤ 8 = kind-most k (pl .kind) in
       let few-nodes : count ≤ w * h = omega (arith, count-low pl bytes, pl .long) in
       let dark : root ≤ greatestGrey = level-low pl bytes 0 some-nodes in
       let r₁ : fieldAt bytes 0 1 maxExtent ≡ accepted w at₁ =

@@ -14,6 +14,7 @@ use Rattle.meaning.specs.Opening.{atLeast, attribute, closed, opened, openedAt}
 use Rattle.meaning.specs.Plate.{Plate, greatestGrey, grey, negative, touch}
 use Rattle.meaning.specs.Sets.{bit, has, nth, table}
 use Rattle.theory_connectivity.proofs.Component.{component-complete, component-sound}
+use Rattle.theory_connectivity.proofs.Touch.{touch-sym, touch-whole}
 use Rattle.theory_lists.proofs.Lists.{getD-table, table-same}
 use Rattle.theory_lists.proofs.Tests.{bit-no, bit-true, bit-yes}
 use Rattle.theory_opening.proofs.Absorb.{opened-cong}
@@ -56,6 +57,7 @@ use Rattle.theorems.specs.Theorems.{
   MarkIsOne,
   MarkIsZero,
   MaximumIsLeaf,
+  NeighboursMutual,
   NestedOrDisjoint,
   NodesAreChain,
   NodesHaveNumbers,
@@ -101,6 +103,14 @@ use Rattle.theorems.proofs.Plates.{
 pub component-paths : ComponentPaths
 component-paths n near ok p q l = (component-sound n near ok p q l, component-complete n near ok p q)
 
+-- ---- 2. neighbours
+
+pub neighbours-mutual : NeighboursMutual
+neighbours-mutual = touch-sym
+
+pub grid-connected : GridConnected
+grid-connected = touch-whole
+
 module _ {k w h : ℕ} {f : List ℕ} (plate : Plate k w h f) where
   abbrev n : ℕ
   n = length f
@@ -110,11 +120,6 @@ module _ {k w h : ℕ} {f : List ℕ} (plate : Plate k w h f) where
 
   abbrev xs : List ℕ
   xs = nodesOf k w f
-
-  -- ---- 2. the grid
-
-  pub grid-connected : GridConnected k w h f
-  grid-connected = plate-grid plate
 
   -- ---- 3. the opened value
 

@@ -2,7 +2,7 @@
 -- greys f. proofs/Theorems.antt proves each under the same name.
 use mathlib.Core.Path.{_≡_}
 use mathlib.Core.Logic.{_⊎_, _↔_}
-use mathlib.Core.Bool.{Bool, _&&_}
+use mathlib.Core.Bool.{Bool, true, _&&_}
 use mathlib.Core.List.{List}
 use Prim.Native.Nat.{ℕ, suc, _+_, _-_, _*_, _≤_, _<_, max}
 use lib.Dec.{T, eqb, leb}
@@ -12,7 +12,7 @@ use Rattle.meaning.specs.Cut.{cut, darkest, lostAt, total}
 use Rattle.meaning.specs.Maxima.{LargeMaxima, Maximum, marks, maximum}
 use Rattle.meaning.specs.Nodes.{NodeSet, Same, areaOf, holds, levelOf, nodesOf, own, parent, rise}
 use Rattle.meaning.specs.Opening.{Region, attribute, closed, opened}
-use Rattle.meaning.specs.Paths.{Grid, Joined}
+use Rattle.meaning.specs.Paths.{Joined}
 use Rattle.meaning.specs.Plate.{NowhereLighter, Plate, greatestGrey, grey, negative, touch}
 use Rattle.meaning.specs.Sets.{Within, has, nth, pick, sum}
 use Rattle.theory_tree.specs.Tree.{Ancestor, Before}
@@ -24,6 +24,16 @@ abbrev pub ComponentPaths : Type 0
 ComponentPaths =
     (n : ℕ) (near : ℕ → ℕ → Bool) (ok : ℕ → Bool) (p q : ℕ) → q < n → T (has (component n near ok p) q) ↔ Joined n near ok p q
 
+-- ---- 2. neighbours, with each kind of connectivity on every grid of w columns and h rows
+
+-- they are mutual
+abbrev pub NeighboursMutual : Type 0
+NeighboursMutual = (k w p q : ℕ) → T (touch k w p q) → T (touch k w q p)
+
+-- a path leads from each pixel to each
+abbrev pub GridConnected : Type 0
+GridConnected = (k w h p q : ℕ) → p < w * h → q < w * h → Joined (w * h) (touch k w) (λ (r : ℕ). true) p q
+
 module _ (k w h : ℕ) (f : List ℕ) where
   abbrev n : ℕ
   n = length f
@@ -33,11 +43,6 @@ module _ (k w h : ℕ) (f : List ℕ) where
 
   abbrev xs : List ℕ
   xs = nodesOf k w f
-
-  -- ---- 2. the grid is symmetric and connected
-
-  abbrev pub GridConnected : Type 0
-  GridConnected = Grid n near
 
   -- ---- 3. the opened value
 
