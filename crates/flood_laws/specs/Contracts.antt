@@ -177,12 +177,12 @@ pub record Looked (k wd ht n : ℕ) (w w′ t t′ : List ℕ) (h x y : ℕ) (Q 
 abbrev pub LookedIn : ℕ → ℕ → ℕ → ℕ → List ℕ → List ℕ → List ℕ → List ℕ → ℕ → ℕ → ℕ → ℕ → ℕ → Type 0
 LookedIn k wd ht n w w′ t t′ h x y d r = Looked k wd ht n w w′ t t′ h x y (λ (q : ℕ). Beside wd d (y * wd + x) q) r
 
--- q touches p, and lies in the row above; in the row below
-abbrev pub UpperRow : (k wd p q : ℕ) → Type 0
-UpperRow k wd p q = T (touch k wd p q) × (q / wd + 1 ≡ p / wd)
+-- the neighbours of p in the row above, and in the row below, with connectivity 8
+abbrev pub UpperRow : ℕ → ℕ → ℕ → Type 0
+UpperRow wd p q = (Beside wd 3 p q ⊎ Beside wd 4 p q) ⊎ Beside wd 6 p q
 
-abbrev pub LowerRow : (k wd p q : ℕ) → Type 0
-LowerRow k wd p q = T (touch k wd p q) × (q / wd ≡ p / wd + 1)
+abbrev pub LowerRow : ℕ → ℕ → ℕ → Type 0
+LowerRow wd p q = (Beside wd 2 p q ⊎ Beside wd 5 p q) ⊎ Beside wd 7 p q
 
 -- the current pixel is done, or the flood has risen to r
 pub record Visited (k wd ht n : ℕ) (w w′ t t′ : List ℕ) (r : ℕ) : Type 0 where
@@ -196,13 +196,19 @@ pub record Popped (k wd ht n : ℕ) (w t : List ℕ) (h e : ℕ) : Type 0 where
   pub current : pixelOf wd n e < n
   pub high : col GREY n w (pixelOf wd n e) ≡ h
 
+-- the pixel of the entry e is taken off the stack of the lightest open level h: it is the current one, and less is left to do
+pub record Taken (k wd ht n : ℕ) (w t t′ : List ℕ) (h e : ℕ) : Type 0 where
+  pub popped : Popped k wd ht n w t′ h e
+  pub table : Frame LEVELS t t′
+  pub less : left n w t′ < left n w t
+
 -- the lightest open level h has nothing on its stack
 pub record Closable (k wd ht n : ℕ) (w t : List ℕ) (h : ℕ) : Type 0 where
   pub ready : Ready k wd ht n w t h
   pub empty : level TOP t h ≡ level START t h
 
--- a step; r is the next level plus one, 0 where it was the last step
-pub record Turned (k wd ht n : ℕ) (w w′ t t′ : List ℕ) (r : ℕ) : Type 0 where
+-- some steps; r is the next level plus one, 0 where it was the last step
+pub record Stepped (k wd ht n : ℕ) (w w′ t t′ : List ℕ) (r : ℕ) : Type 0 where
   pub kept : Kept n w w′ t t′
   pub less : 0 < r → left n w′ t′ < left n w t
   pub ready : (l : ℕ) → r ≡ l + 1 → Ready k wd ht n w′ t′ l

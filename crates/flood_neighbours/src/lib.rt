@@ -232,20 +232,15 @@ fn lower_left(w: &mut [u32], t: &mut [u32], g: Shape, at: Pixel, h: usize) -> us
 // Looks at the neighbours of `at` in the row above, until the flood rises. The answer is h, or the level to which the flood has risen.
 fn upper_row(w: &mut [u32], t: &mut [u32], g: Shape, at: Pixel, h: usize) -> usize
     requires { ⌜ Looking (g .connectivity) (g .width) (g .height) (g .n) (now w) (now t) h (at .x) (at .y) ⌝ }
-    ensures { λ r. ⌜ Looked (g .connectivity) (g .width) (g .height) (g .n) (now (w .entry)) (now (w .exit)) (now (t .entry)) (now (t .exit)) h (at .x) (at .y) (UpperRow (g .connectivity) (g .width) (at .y * g .width + at .x)) r ⌝ }
+    requires { ⌜ 6 < g .connectivity ⌝ }
+    ensures { λ r. ⌜ Looked (g .connectivity) (g .width) (g .height) (g .n) (now (w .entry)) (now (w .exit)) (now (t .entry)) (now (t .exit)) h (at .x) (at .y) (UpperRow (g .width) (at .y * g .width + at .x)) r ⌝ }
 {
     let a = upper(w, t, g, at, h);
     if a != h {
         return a;
     }
-    if g.connectivity == 4 {
-        return a;
-    }
     let b = upper_left(w, t, g, at, h);
     if b != h {
-        return b;
-    }
-    if g.connectivity == 6 {
         return b;
     }
     upper_right(w, t, g, at, h)
@@ -254,28 +249,82 @@ fn upper_row(w: &mut [u32], t: &mut [u32], g: Shape, at: Pixel, h: usize) -> usi
 // Looks at the neighbours of `at` in the row below, until the flood rises. The answer is h, or the level to which the flood has risen.
 fn lower_row(w: &mut [u32], t: &mut [u32], g: Shape, at: Pixel, h: usize) -> usize
     requires { ⌜ Looking (g .connectivity) (g .width) (g .height) (g .n) (now w) (now t) h (at .x) (at .y) ⌝ }
-    ensures { λ r. ⌜ Looked (g .connectivity) (g .width) (g .height) (g .n) (now (w .entry)) (now (w .exit)) (now (t .entry)) (now (t .exit)) h (at .x) (at .y) (LowerRow (g .connectivity) (g .width) (at .y * g .width + at .x)) r ⌝ }
+    requires { ⌜ 7 < g .connectivity ⌝ }
+    ensures { λ r. ⌜ Looked (g .connectivity) (g .width) (g .height) (g .n) (now (w .entry)) (now (w .exit)) (now (t .entry)) (now (t .exit)) h (at .x) (at .y) (LowerRow (g .width) (at .y * g .width + at .x)) r ⌝ }
 {
     let a = lower(w, t, g, at, h);
     if a != h {
-        return a;
-    }
-    if g.connectivity == 4 {
         return a;
     }
     let b = lower_right(w, t, g, at, h);
     if b != h {
         return b;
     }
-    if g.connectivity == 6 {
-        return b;
-    }
     lower_left(w, t, g, at, h)
 }
 
-// Looks at the neighbours of the pixel with the entry e, of the lightest open level h, until the flood rises: the level at which it goes on.
-pub fn visit(w: &mut [u32], t: &mut [u32], g: Shape, e: usize, h: usize) -> usize
+// Looks at the neighbours of the pixel with the entry e, of the lightest open level h, with connectivity 4, until the flood rises: the level at which it goes on.
+pub fn four(w: &mut [u32], t: &mut [u32], g: Shape, e: usize, h: usize) -> usize
     requires { ⌜ Popped (g .connectivity) (g .width) (g .height) (g .n) (now w) (now t) h e ⌝ }
+    requires { ⌜ g .connectivity ≡ 4 ⌝ }
+    ensures { λ r. ⌜ Visited (g .connectivity) (g .width) (g .height) (g .n) (now (w .entry)) (now (w .exit)) (now (t .entry)) (now (t .exit)) r ⌝ }
+{
+    let at = Pixel {
+        x: e % 65536,
+        y: e / 65536,
+    };
+    let a = upper(w, t, g, at, h);
+    if a != h {
+        return a;
+    }
+    let b = lower(w, t, g, at, h);
+    if b != h {
+        return b;
+    }
+    let c = left(w, t, g, at, h);
+    if c != h {
+        return c;
+    }
+    right(w, t, g, at, h)
+}
+
+// Looks at the neighbours of the pixel with the entry e, of the lightest open level h, with connectivity 6, until the flood rises: the level at which it goes on.
+pub fn six(w: &mut [u32], t: &mut [u32], g: Shape, e: usize, h: usize) -> usize
+    requires { ⌜ Popped (g .connectivity) (g .width) (g .height) (g .n) (now w) (now t) h e ⌝ }
+    requires { ⌜ g .connectivity ≡ 6 ⌝ }
+    ensures { λ r. ⌜ Visited (g .connectivity) (g .width) (g .height) (g .n) (now (w .entry)) (now (w .exit)) (now (t .entry)) (now (t .exit)) r ⌝ }
+{
+    let at = Pixel {
+        x: e % 65536,
+        y: e / 65536,
+    };
+    let a = upper(w, t, g, at, h);
+    if a != h {
+        return a;
+    }
+    let b = upper_left(w, t, g, at, h);
+    if b != h {
+        return b;
+    }
+    let c = lower(w, t, g, at, h);
+    if c != h {
+        return c;
+    }
+    let d = lower_right(w, t, g, at, h);
+    if d != h {
+        return d;
+    }
+    let e = left(w, t, g, at, h);
+    if e != h {
+        return e;
+    }
+    right(w, t, g, at, h)
+}
+
+// Looks at the neighbours of the pixel with the entry e, of the lightest open level h, with connectivity 8, until the flood rises: the level at which it goes on.
+pub fn eight(w: &mut [u32], t: &mut [u32], g: Shape, e: usize, h: usize) -> usize
+    requires { ⌜ Popped (g .connectivity) (g .width) (g .height) (g .n) (now w) (now t) h e ⌝ }
+    requires { ⌜ g .connectivity ≡ 8 ⌝ }
     ensures { λ r. ⌜ Visited (g .connectivity) (g .width) (g .height) (g .n) (now (w .entry)) (now (w .exit)) (now (t .entry)) (now (t .exit)) r ⌝ }
 {
     let at = Pixel {

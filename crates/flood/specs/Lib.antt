@@ -1,0 +1,2 @@
+-- What the inner functions of flooding leave.
+pub mod Tops
