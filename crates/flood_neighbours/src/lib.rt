@@ -1,7 +1,7 @@
 // The neighbours of a pixel, looked at until the flood rises.
 ghost use mathlib.Core.Path.{_≡_};
 ghost use Prim.Native.Nat.{ℕ, _+_, _*_, _<_};
-ghost use Rattle.flood_laws.specs.Contracts.{Looking, Toward, Looked, LookedIn, UpperRow, LowerRow, Visited, Popped};
+ghost use Rattle.flood_laws.specs.Contracts.{Looking, Toward, Looked, LookedIn, UpperRow, LowerRow, Visited};
 use work_columns::OWN;
 use work_columns::get;
 
@@ -160,7 +160,7 @@ fn lower_right(w: &mut [u32], t: &mut [u32], g: Shape, at: Pixel, h: usize) -> u
     requires { ⌜ 5 < g .connectivity ⌝ }
     ensures { λ r. ⌜ LookedIn (g .connectivity) (g .width) (g .height) (g .n) (now (w .entry)) (now (w .exit)) (now (t .entry)) (now (t .exit)) h (at .x) (at .y) 5 r ⌝ }
 {
-    if g.width < at.x + 2 {
+    if g.width <= at.x + 1 {
         return h;
     }
     if g.height <= at.y + 1 {
@@ -263,16 +263,12 @@ fn lower_row(w: &mut [u32], t: &mut [u32], g: Shape, at: Pixel, h: usize) -> usi
     lower_left(w, t, g, at, h)
 }
 
-// Looks at the neighbours of the pixel with the entry e, of the lightest open level h, with connectivity 4, until the flood rises: the level at which it goes on.
-pub fn four(w: &mut [u32], t: &mut [u32], g: Shape, e: usize, h: usize) -> usize
-    requires { ⌜ Popped (g .connectivity) (g .width) (g .height) (g .n) (now w) (now t) h e ⌝ }
+// Looks at the neighbours of `at`, a pixel of the lightest open level h, with connectivity 4, until the flood rises: the level at which it goes on.
+pub fn four(w: &mut [u32], t: &mut [u32], g: Shape, at: Pixel, h: usize) -> usize
+    requires { ⌜ Looking (g .connectivity) (g .width) (g .height) (g .n) (now w) (now t) h (at .x) (at .y) ⌝ }
     requires { ⌜ g .connectivity ≡ 4 ⌝ }
     ensures { λ r. ⌜ Visited (g .connectivity) (g .width) (g .height) (g .n) (now (w .entry)) (now (w .exit)) (now (t .entry)) (now (t .exit)) r ⌝ }
 {
-    let at = Pixel {
-        x: e % 65536,
-        y: e / 65536,
-    };
     let a = upper(w, t, g, at, h);
     if a != h {
         return a;
@@ -288,16 +284,12 @@ pub fn four(w: &mut [u32], t: &mut [u32], g: Shape, e: usize, h: usize) -> usize
     right(w, t, g, at, h)
 }
 
-// Looks at the neighbours of the pixel with the entry e, of the lightest open level h, with connectivity 6, until the flood rises: the level at which it goes on.
-pub fn six(w: &mut [u32], t: &mut [u32], g: Shape, e: usize, h: usize) -> usize
-    requires { ⌜ Popped (g .connectivity) (g .width) (g .height) (g .n) (now w) (now t) h e ⌝ }
+// Looks at the neighbours of `at`, a pixel of the lightest open level h, with connectivity 6, until the flood rises: the level at which it goes on.
+pub fn six(w: &mut [u32], t: &mut [u32], g: Shape, at: Pixel, h: usize) -> usize
+    requires { ⌜ Looking (g .connectivity) (g .width) (g .height) (g .n) (now w) (now t) h (at .x) (at .y) ⌝ }
     requires { ⌜ g .connectivity ≡ 6 ⌝ }
     ensures { λ r. ⌜ Visited (g .connectivity) (g .width) (g .height) (g .n) (now (w .entry)) (now (w .exit)) (now (t .entry)) (now (t .exit)) r ⌝ }
 {
-    let at = Pixel {
-        x: e % 65536,
-        y: e / 65536,
-    };
     let a = upper(w, t, g, at, h);
     if a != h {
         return a;
@@ -321,16 +313,12 @@ pub fn six(w: &mut [u32], t: &mut [u32], g: Shape, e: usize, h: usize) -> usize
     right(w, t, g, at, h)
 }
 
-// Looks at the neighbours of the pixel with the entry e, of the lightest open level h, with connectivity 8, until the flood rises: the level at which it goes on.
-pub fn eight(w: &mut [u32], t: &mut [u32], g: Shape, e: usize, h: usize) -> usize
-    requires { ⌜ Popped (g .connectivity) (g .width) (g .height) (g .n) (now w) (now t) h e ⌝ }
+// Looks at the neighbours of `at`, a pixel of the lightest open level h, with connectivity 8, until the flood rises: the level at which it goes on.
+pub fn eight(w: &mut [u32], t: &mut [u32], g: Shape, at: Pixel, h: usize) -> usize
+    requires { ⌜ Looking (g .connectivity) (g .width) (g .height) (g .n) (now w) (now t) h (at .x) (at .y) ⌝ }
     requires { ⌜ g .connectivity ≡ 8 ⌝ }
     ensures { λ r. ⌜ Visited (g .connectivity) (g .width) (g .height) (g .n) (now (w .entry)) (now (w .exit)) (now (t .entry)) (now (t .exit)) r ⌝ }
 {
-    let at = Pixel {
-        x: e % 65536,
-        y: e / 65536,
-    };
     let a = upper_row(w, t, g, at, h);
     if a != h {
         return a;

@@ -1,15 +1,14 @@
 -- `flood_neighbours::six` meets its contract.
-use Prim.Native.Nat.{_+_, _*_, _/_, _%_}
+use Prim.Native.Nat.{_+_, _*_}
 use native.Mathlib.Omega.{arith}
 use Rattle.flood_neighbours.proofs.six.Statement.{statement}
 use Rattle.flood_neighbours.proofs.six.Tie as tie
-use Rattle.flood_laws.proofs.Closes.{looking}
 use Rattle.flood_laws.proofs.Looks.{all-six, then, visited, visited-risen}
 
 upper-requires : tie.Need-upper-requires
 upper-requires c κs =
     let pre = c .before .before .before .before .pre in
-    (looking (pre .0), omega (arith, pre .1))
+    (pre .0, omega (arith, pre .1))
 
 returns : tie.Need-returns
 returns c =
@@ -142,7 +141,7 @@ returns-6 c =
     let at-args = at-upper .before .before .before .before .before in
     let args = at-args .args in
     visited (then (then (then (then (then (at-upper .upper .ensures) (at-if1 .if1 .left) (at-upper-left .upper-left .ensures)) (at-if2 .if2 .left) (at-lower .lower .ensures)) (at-if3 .if3 .left) (at-lower-right .lower-right .ensures)) (at-if4 .if4 .left) (at-left .left .ensures)) (at-if5 .if5 .left) (at-right .right .ensures))
-    (λ q l t. all-six (args .g .connectivity) (args .g .width) (args .e / 65536 * args .g .width + args .e % 65536) q (at-args .pre .0 .machine .sizes .kind) t
+    (λ q l t. all-six (args .g .connectivity) (args .g .width) (args .at .y * args .g .width + args .at .x) q (at-args .pre .0 .machine .sizes .kind) t
     (at-args .pre .1))
 
 same-length-11 : tie.Need-same-length-11
