@@ -7,6 +7,7 @@ mod joint;
 mod netpbm;
 mod plates;
 mod sides;
+mod touch;
 
 use crate::case::Case;
 use crate::cleaning::negative;
@@ -21,14 +22,23 @@ pub fn cases_text() -> String {
     sides::cases(&mut cases);
     damage::cases(&mut cases);
     joint::cases(&mut cases);
+    touch::cases(&mut cases);
     files::cases(&mut cases);
     netpbm::cases(&mut cases);
     cases.iter().map(Case::line).collect()
 }
 
+/// Numbers that are no connectivity; the lowest byte of 262 is 6.
+pub const UNFIT: [u32; 11] = [0, 1, 2, 3, 5, 7, 9, 10, 12, 262, u32::MAX];
+
 /// A case on a record, with work space.
 fn on_record(name: &'static str, record: &[u8], work: usize) -> Case<'static> {
     Case::new(name).with("work", work).on(record)
+}
+
+/// A record with a byte replaced by others.
+pub fn replaced(record: &[u8], at: usize, bytes: &[u8]) -> Vec<u8> {
+    [&record[..at], bytes, &record[at + 1..]].concat()
 }
 
 /// A case of cleaning, with its side alone.

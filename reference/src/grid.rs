@@ -4,6 +4,8 @@
 pub const MAX_WIDTH_OR_HEIGHT: u32 = 32_768;
 /// The greatest number of pixels.
 pub const MAX_PIXELS: u64 = 16_777_216;
+/// The connectivities.
+pub const CONNECTIVITIES: [u32; 3] = [4, 6, 8];
 
 /// A grid that has passed the checks, with its connectivity.
 #[derive(Clone, Copy, Debug, PartialEq, Eq)]
@@ -15,7 +17,7 @@ pub struct Grid {
 
 /// Is this a connectivity?
 pub fn is_connectivity(connectivity: u32) -> bool {
-    connectivity == 4 || connectivity == 8
+    CONNECTIVITIES.contains(&connectivity)
 }
 
 /// Is this a width, or a height, taken alone?
@@ -45,20 +47,32 @@ pub fn check_plate(plate: &[u8], width: u32, height: u32, connectivity: u32) -> 
     Ok(grid)
 }
 
+/// The steps, as rows down and columns right, to the pixels that share an edge,
+/// then to the upper left and the lower right, then to the other two that share
+/// a corner. The first 4, 6 or 8, as the connectivity says, lead to the pixels
+/// that touch.
+const STEPS: [(isize, isize); 8] = [
+    (-1, 0),
+    (0, -1),
+    (0, 1),
+    (1, 0),
+    (-1, -1),
+    (1, 1),
+    (-1, 1),
+    (1, -1),
+];
+
 /// Do two pixels of a plate of this width touch?
 pub fn touching(width: usize, connectivity: u32, p: usize, q: usize) -> bool {
-    let rows = (p / width).abs_diff(q / width);
-    let columns = (p % width).abs_diff(q % width);
-    near(connectivity, rows, columns)
+    let place = |pixel: usize| (pixel / width, pixel % width);
+    near(connectivity, place(p), place(q))
 }
 
-/// Do pixels this many rows and columns apart touch?
-fn near(connectivity: u32, rows: usize, columns: usize) -> bool {
-    if connectivity == 4 {
-        rows + columns == 1
-    } else {
-        rows.max(columns) == 1
-    }
+/// Do the pixels at these two places, a row and a column each, touch?
+fn near(connectivity: u32, from: (usize, usize), to: (usize, usize)) -> bool {
+    let down = to.0 as isize - from.0 as isize;
+    let right = to.1 as isize - from.1 as isize;
+    STEPS[..connectivity as usize].contains(&(down, right))
 }
 
 impl Grid {
@@ -84,7 +98,7 @@ impl Grid {
         let last_column = (column + 1).min(grid.width - 1);
         (row.saturating_sub(1)..=last_row).flat_map(move |r| {
             (column.saturating_sub(1)..=last_column)
-                .filter(move |&c| near(grid.connectivity, r.abs_diff(row), c.abs_diff(column)))
+                .filter(move |&c| near(grid.connectivity, (row, column), (r, c)))
                 .map(move |c| r * grid.width + c)
         })
     }

@@ -27,7 +27,7 @@ pub mod work;
 pub use cases::cases_text;
 pub use cleaning::{clean, DARK, LIGHT, SIDES};
 pub use deep::deep_text;
-pub use grid::{touching, Grid};
+pub use grid::{touching, Grid, CONNECTIVITIES};
 pub use ink::ink_percentage;
 pub use joint::{write_cut_list, JointHead, JointOutputs};
 pub use maxima::regional_maxima;

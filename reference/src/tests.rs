@@ -8,3 +8,4 @@ mod order;
 mod properties;
 mod refusals;
 mod slips;
+mod touch;

@@ -1,7 +1,9 @@
 //! Damaged records: cut short, lengthened, changed byte by byte, with fields
 //! out of form and out of range, with too little work space.
 
-use super::{on_record, Case, Plate};
+use super::{on_record, replaced, touch, Case, Plate, UNFIT};
+use crate::varint::spelled;
+use crate::CONNECTIVITIES;
 
 /// All of them.
 pub fn cases(cases: &mut Vec<Case>) {
@@ -15,6 +17,8 @@ pub fn cases(cases: &mut Vec<Case>) {
     spaced(&record, cases);
     long_fields(cases);
     other_plates(cases);
+    third_fields(cases);
+    six(cases);
 }
 
 /// The record read, cut and listed, with room for 12 pixels.
@@ -64,7 +68,7 @@ fn truncated(record: &[u8], cases: &mut Vec<Case>) {
 fn changed(record: &[u8], cases: &mut Vec<Case>) {
     for i in 0..record.len() {
         let b = record[i];
-        let mut values = vec![0, 1, 2, 3, 4, 8, 127, 128, 132, 255];
+        let mut values = vec![0, 1, 2, 3, 4, 6, 8, 127, 128, 132, 255];
         values.extend([b.wrapping_sub(1), b.wrapping_add(1), b ^ 128]);
         values.sort_unstable();
         values.dedup();
@@ -92,9 +96,9 @@ fn reformed(record: &[u8], cases: &mut Vec<Case>) {
             &[128; 12],
             &[b | 128],
         ];
-        all(&[&record[..i], forms[0], &record[i + 1..]].concat(), cases);
+        all(&replaced(record, i, forms[0]), cases);
         for form in forms {
-            read(&[&record[..i], form, &record[i + 1..]].concat(), cases);
+            read(&replaced(record, i, form), cases);
         }
         read(&[&record[..i], &[128; 40]].concat(), cases);
     }
@@ -129,11 +133,7 @@ fn ranged(record: &[u8], cases: &mut Vec<Case>) {
         (13, 245),
     ];
     for (place, value) in places {
-        let field = crate::varint::spelled(value);
-        all(
-            &[&record[..place], &field, &record[place + 1..]].concat(),
-            cases,
-        );
+        all(&replaced(record, place, &spelled(value)), cases);
     }
 }
 
@@ -169,7 +169,7 @@ fn long_fields(cases: &mut Vec<Case>) {
 
 /// Records whose fields are in range and which are no plate's: 24.
 fn other_plates(cases: &mut Vec<Case>) {
-    let records: [&[u8]; 7] = [
+    let records: [&[u8]; 8] = [
         // one pixel, a node without a pixel
         &[1, 1, 4, 2, 7, 1, 1, 1, 1, 0],
         // two pixels of one grey as two nodes
@@ -180,8 +180,9 @@ fn other_plates(cases: &mut Vec<Case>) {
         // nodes out of their order
         &[3, 1, 4, 3, 1, 3, 1, 9, 1, 2, 4, 1, 1, 0, 2],
         &[3, 1, 4, 3, 1, 3, 1, 4, 1, 2, 9, 1, 2, 0, 1],
-        // the same bytes for the other connectivity
+        // the same bytes for the other connectivities
         &[2, 2, 8, 3, 0, 4, 1, 5, 1, 2, 5, 1, 1, 0, 0, 2],
+        &[2, 2, 6, 3, 0, 4, 1, 5, 1, 2, 5, 1, 1, 0, 0, 2],
     ];
     for record in records {
         all(record, cases);
@@ -190,4 +191,45 @@ fn other_plates(cases: &mut Vec<Case>) {
             with_places(name, record, 0, 97, cases);
         }
     }
+}
+
+/// The third field: each connectivity, in records for each; and numbers that are
+/// no connectivity.
+fn third_fields(cases: &mut Vec<Case>) {
+    for plate in touch::plates() {
+        let mut records = Vec::new();
+        for connectivity in CONNECTIVITIES {
+            let record = plate.described(connectivity).1;
+            records.extend(CONNECTIVITIES.map(|other| replaced(&record, 2, &[other as u8])));
+        }
+        records.sort_unstable();
+        records.dedup();
+        for record in records {
+            all(&record, cases);
+        }
+    }
+    let record = touch::told_apart().described(6).1;
+    for number in UNFIT {
+        all(&replaced(&record, 2, &spelled(number)), cases);
+    }
+    // 22 of the third field stands ahead of the end and of little work space
+    for number in [5, 6, 7] {
+        for length in [3, 4] {
+            let begun = replaced(&record[..length], 2, &[number]);
+            with_places("read", &begun, 12, 0, cases);
+        }
+    }
+}
+
+/// Records of connectivity 6: cut short, lengthened, each field not in its
+/// shortest form and out of its range, little work space.
+fn six(cases: &mut Vec<Case>) {
+    let plate = Plate::new(2, 2, |p| if p % 3 == 0 { 9 } else { 0 });
+    let record = plate.described(6).1;
+    truncated(&record, cases);
+    for i in 0..record.len() {
+        all(&replaced(&record, i, &[record[i] | 128, 0]), cases);
+        all(&replaced(&record, i, &spelled(u32::MAX)), cases);
+    }
+    spaced(&touch::told_apart().described(6).1, cases);
 }

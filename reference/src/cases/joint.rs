@@ -2,6 +2,7 @@
 //! buffer that just fits and that just does not, alone and with others.
 
 use super::{Case, Plate};
+use crate::CONNECTIVITIES;
 
 /// All of them.
 pub fn cases(cases: &mut Vec<Case>) {
@@ -16,7 +17,7 @@ pub fn cases(cases: &mut Vec<Case>) {
         Plate::new(20, 9, |p| (p * 89 % 211) as u8),
     ];
     for plate in plates {
-        for connectivity in [4, 8] {
+        for connectivity in CONNECTIVITIES {
             let ample = ample(&plate, connectivity);
             for limit in super::plates::limits(plate.pixels()) {
                 cases.push(ample.clone().with("limit", limit));
@@ -28,7 +29,7 @@ pub fn cases(cases: &mut Vec<Case>) {
 }
 
 /// A case with a little excess in every buffer.
-fn ample(plate: &Plate, connectivity: u32) -> Case<'static> {
+pub fn ample(plate: &Plate, connectivity: u32) -> Case<'static> {
     let record = plate.described(connectivity).1;
     let limit = 2.min(plate.pixels() as u32);
     plate

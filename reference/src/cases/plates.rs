@@ -1,13 +1,13 @@
 //! Cases on plates and on their records: every operation, limits of every
 //! kind, buffers that just fit and that just do not, every set of conditions.
 
-use super::{cleaning, on_record, Case, Plate};
-use crate::{LIGHT, SIDES};
+use super::{cleaning, on_record, Case, Plate, UNFIT};
+use crate::{CONNECTIVITIES, LIGHT, SIDES};
 
 /// All of them.
 pub fn cases(cases: &mut Vec<Case>) {
     for plate in plates() {
-        for connectivity in [4, 8] {
+        for connectivity in CONNECTIVITIES {
             cleaned(&plate, connectivity, cases);
             listed(&plate, connectivity, cases);
             recorded(&plate, connectivity, cases);
@@ -80,7 +80,7 @@ fn cleaned(plate: &Plate, connectivity: u32, cases: &mut Vec<Case>) {
 const COLUMNS: [&str; 4] = ["levels", "parents", "areas", "anchors"];
 
 /// The case with so many places in each column.
-fn with_columns(case: Case<'static>, places: usize) -> Case<'static> {
+pub fn with_columns(case: Case<'static>, places: usize) -> Case<'static> {
     COLUMNS
         .into_iter()
         .fold(case, |case, column| case.with(column, places))
@@ -140,8 +140,10 @@ fn entries(cases: &mut Vec<Case>) {
         for at in [0, 1, 2, 3, 4, 5, 6, 7, 65_536, u32::MAX] {
             cases.push(plate.case("entries", 4).with("at", at));
         }
-        for work in [0, 8 * plate.pixels() - 1, 8 * plate.pixels()] {
-            cases.push(plate.case("entries", 8).with("work", work));
+        for connectivity in [6, 8] {
+            for work in [0, 8 * plate.pixels() - 1, 8 * plate.pixels()] {
+                cases.push(plate.case("entries", connectivity).with("work", work));
+            }
         }
     }
 }
@@ -171,12 +173,13 @@ fn places_of(case: Case<'static>, places: usize) -> Case<'static> {
     outputs.fold(case, |case, output| case.with(output, places))
 }
 
-/// Numbers beyond what is allowed, one at a time, for each operation.
+/// Numbers beyond what is allowed, one at a time, for each operation; and each
+/// connectivity.
 fn parameters(cases: &mut Vec<Case>) {
     let most = u32::MAX;
     for operation in operations() {
         let base = || small(operation.clone(), 4, 2, 40);
-        for connectivity in [0, 1, 3, 5, 6, 7, 9, 12, most] {
+        for connectivity in UNFIT.into_iter().chain(CONNECTIVITIES) {
             cases.push(base().with("connectivity", connectivity));
         }
         let sizes = [
@@ -216,21 +219,32 @@ fn parameters(cases: &mut Vec<Case>) {
 }
 
 /// Every set of the conditions at once: the first in the specification's
-/// order decides.
+/// order decides. With connectivity 6 none of them, each alone and each with all
+/// later ones; with 5 and with 7 all later ones.
 fn conditions(cases: &mut Vec<Case>) {
+    let chosen = [0, 2, 4, 8, 16, 32, 48, 56, 60, 62].map(|met| (6, met));
     for operation in operations() {
         cases.extend((0..64).map(|met| meeting(operation.clone(), met)));
+        for (connectivity, met) in chosen.into_iter().chain([(5, 62), (7, 62)]) {
+            cases.push(meeting_later(operation.clone(), connectivity, met));
+        }
     }
 }
 
 /// An operation's case on the small plate that meets the conditions 1 to 6
-/// whose bits are set.
+/// whose bits are set; for 1 the numbers that are no connectivity take turns.
 pub fn meeting(begun: Case<'static>, met: u32) -> Case<'static> {
+    let connectivity = match met % 2 {
+        0 => 8,
+        _ => UNFIT[met as usize / 2 % UNFIT.len()],
+    };
+    meeting_later(begun, connectivity, met)
+}
+
+/// The same for the conditions 2 to 6, with this connectivity.
+pub fn meeting_later(begun: Case<'static>, connectivity: u32, met: u32) -> Case<'static> {
     let places = if met & 16 != 0 { 3 } else { 30 };
-    let mut case = small(begun, 8, 3, places);
-    if met & 1 != 0 {
-        case = case.with("connectivity", 6);
-    }
+    let mut case = small(begun, connectivity, 3, places);
     if met & 2 != 0 {
         case = case.with("height", 0);
     }

@@ -1,23 +1,29 @@
 //! Cleaning by its side: sides that are neither, and pairs of a plate cleaned
 //! on the light side and its negative on the dark side.
 
-use super::{cleaning, plates::meeting, Case, Plate};
-use crate::{DARK, LIGHT};
+use super::plates::{meeting, meeting_later};
+use super::{cleaning, Case, Plate};
+use crate::{CONNECTIVITIES, DARK, LIGHT};
 
 /// All of them.
 pub fn cases(cases: &mut Vec<Case>) {
     neither(cases);
     for plate in plates() {
-        pairs(&plate, cases);
+        for connectivity in CONNECTIVITIES {
+            cases.extend(pair(&plate, connectivity, 3));
+        }
     }
 }
 
 /// Sides that are neither: with no later condition met, with each alone, with
-/// all.
+/// all; with connectivity 5, 6 and 7 and all conditions behind 1.
 fn neither(cases: &mut Vec<Case>) {
     let sets = [0, 1, 2, 4, 8, 16, 32, 63];
     for side in [0, 3, u32::MAX] {
         cases.extend(sets.map(|met| meeting(cleaning(side), met)));
+        for connectivity in [5, 6, 7] {
+            cases.push(meeting_later(cleaning(side), connectivity, 62));
+        }
     }
 }
 
@@ -33,10 +39,9 @@ fn plates() -> [Plate; 3] {
     ]
 }
 
-/// The plate on the light side and its negative on the dark side, at limit 3.
-fn pairs(plate: &Plate, cases: &mut Vec<Case>) {
-    for connectivity in [4, 8] {
-        cases.push(plate.limited(cleaning(LIGHT), connectivity, 3));
-        cases.push(plate.negative().limited(cleaning(DARK), connectivity, 3));
-    }
+/// The plate on the light side and its negative on the dark side.
+pub fn pair(plate: &Plate, connectivity: u32, limit: u32) -> [Case<'static>; 2] {
+    let negative = plate.negative();
+    [(LIGHT, plate), (DARK, &negative)]
+        .map(|(side, plate)| plate.limited(cleaning(side), connectivity, limit))
 }

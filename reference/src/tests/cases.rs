@@ -4,6 +4,7 @@
 use std::collections::BTreeSet;
 
 use crate::case::Case;
+use crate::cases::UNFIT;
 use crate::*;
 
 /// The numbers that an operation answers in these lines.
@@ -15,28 +16,69 @@ fn answers(text: &str, name: &str) -> BTreeSet<u32> {
         .collect()
 }
 
+/// The numbers that each operation answers: six on plates, three on records, two
+/// on files.
+const NUMBERS: [(&str, &[u32]); 11] = [
+    ("clean", &[0, 1, 2, 3, 4, 5, 6, 26]),
+    ("maxima", &[0, 1, 2, 3, 5, 6]),
+    ("nodes", &[0, 1, 2, 3, 5, 6]),
+    ("entries", &[0, 1, 2, 3, 5, 6]),
+    ("write", &[0, 1, 2, 3, 5, 6]),
+    ("joint", &[0, 1, 2, 3, 4, 5, 6]),
+    ("read", &[0, 5, 6, 20, 21, 22, 23, 24]),
+    ("cut", &[0, 4, 5, 6, 20, 21, 22, 23, 24]),
+    ("sizes", &[0, 5, 6, 20, 21, 22, 23, 24]),
+    ("file", &[0, 2, 5, 10, 11, 12, 14, 15]),
+    ("header", &[0, 10, 11]),
+];
+
 #[test]
 fn every_refusal_occurs() {
     let text = vectors_text(&cases_text());
-    let expected: [(&str, &[u32]); 11] = [
-        ("clean", &[0, 1, 2, 3, 4, 5, 6, 26]),
-        ("maxima", &[0, 1, 2, 3, 5, 6]),
-        ("nodes", &[0, 1, 2, 3, 5, 6]),
-        ("entries", &[0, 1, 2, 3, 5, 6]),
-        ("write", &[0, 1, 2, 3, 5, 6]),
-        ("joint", &[0, 1, 2, 3, 4, 5, 6]),
-        ("read", &[0, 5, 6, 20, 21, 22, 23, 24]),
-        ("cut", &[0, 4, 5, 6, 20, 21, 22, 23, 24]),
-        ("sizes", &[0, 5, 6, 20, 21, 22, 23, 24]),
-        ("file", &[0, 2, 5, 10, 11, 12, 14, 15]),
-        ("header", &[0, 10, 11]),
-    ];
-    for (name, numbers) in expected {
-        assert_eq!(
-            answers(&text, name),
-            numbers.iter().copied().collect(),
-            "{name}"
-        );
+    for (name, numbers) in NUMBERS {
+        let expected = numbers.iter().copied().collect();
+        assert_eq!(answers(&text, name), expected, "{name}");
+    }
+}
+
+/// The numbers that an operation answers in the cases that are chosen.
+fn chosen_answers(cases: &str, name: &str, chosen: impl Fn(&Case) -> bool) -> BTreeSet<u32> {
+    let lines = cases
+        .lines()
+        .filter(|line| line.split(' ').next() == Some(name));
+    let chosen: Vec<&str> = lines.filter(|line| chosen(&Case::of(line))).collect();
+    answers(&vectors_text(&chosen.join("\n")), name)
+}
+
+/// Is the case on a plate, or on a record of a plate, of connectivity 6?
+fn has_six(case: &Case) -> bool {
+    match case.name {
+        "read" | "cut" | "sizes" => matches!(case.bytes()[..], [0..=127, 0..=127, 6, ..]),
+        _ => case.number("connectivity") == 6,
+    }
+}
+
+#[test]
+fn every_refusal_but_1_occurs_with_connectivity_6() {
+    let cases = cases_text();
+    for (name, numbers) in &NUMBERS[..9] {
+        let mut expected: BTreeSet<u32> = numbers.iter().copied().collect();
+        expected.remove(&1);
+        assert_eq!(chosen_answers(&cases, name, has_six), expected, "{name}");
+    }
+}
+
+#[test]
+fn a_number_that_is_no_connectivity_is_refused_by_1() {
+    let cases = cases_text();
+    for (name, _) in &NUMBERS[..6] {
+        for unfit in UNFIT {
+            let met = chosen_answers(&cases, name, |case| {
+                let side_fits = *name != "clean" || SIDES.contains(&case.number("side"));
+                side_fits && case.number("connectivity") == unfit
+            });
+            assert_eq!(met, BTreeSet::from([1]), "{name} {unfit}");
+        }
     }
 }
 
@@ -46,10 +88,8 @@ fn every_refusal_of_cleaning_occurs_on_both_sides() {
     let sides = [(LIGHT, 0..=6), (DARK, 0..=6)];
     let neither = [0, 3, u32::MAX].map(|side| (side, 26..=26));
     for (side, numbers) in sides.into_iter().chain(neither) {
-        let begun = format!("clean side {side} ");
-        let lines = cases.lines().filter(|line| line.starts_with(&begun));
-        let chosen = lines.collect::<Vec<_>>().join("\n");
-        assert_eq!(answers(&vectors_text(&chosen), "clean"), numbers.collect());
+        let met = chosen_answers(&cases, "clean", |case| case.number("side") == side);
+        assert_eq!(met, numbers.collect());
     }
 }
 
@@ -132,6 +172,26 @@ fn a_plate_on_the_light_side_and_its_negative_on_the_dark_side() {
         &format!("clean side 2 {fields} bytes 255*2 246*2 255 246*2 255 246 255*2 246"),
         "clean 0 | 255*2 246*2 255 246*2 255*5 170 | 0*96 7*2",
     );
+}
+
+#[test]
+fn three_kinds_of_touch_and_a_number_that_is_none() {
+    let begun = "clean side 1 width 4 height 3 connectivity";
+    let fields = "work 98 limit 2 out 13 bytes 0 7 0*4 9 0*2 8 0*2";
+    for (connectivity, plate) in [
+        (4, "0*12"),
+        (6, "0 7 0*4 7 0*5"),
+        (8, "0 7 0*4 8 0*2 8 0*2"),
+    ] {
+        let line = format!("clean 0 | {plate} 170 | 0*96 7*2");
+        holds(&format!("{begun} {connectivity} {fields}"), &line);
+    }
+    let later = "work 95 limit 0 out 3 bytes 10*5 50 30 10*4";
+    for unfit in [5, 7] {
+        let shape = format!("width 4 height 0 connectivity {unfit} {later}");
+        holds(&format!("clean side 1 {shape}"), "clean 1 | 170*3 | 7*95");
+        holds(&format!("clean side 3 {shape}"), "clean 26 | 170*3 | 7*95");
+    }
 }
 
 #[test]

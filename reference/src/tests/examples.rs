@@ -129,7 +129,7 @@ fn a_record_of_132_and_0_gives_21() {
 
 #[test]
 fn one_pixel_of_grey_7() {
-    for connectivity in [4, 8] {
+    for connectivity in CONNECTIVITIES {
         for side in SIDES {
             assert_eq!(cleaned(side, &[7], 1, 1, connectivity, 1), [7]);
         }

@@ -10,6 +10,18 @@ pub const SMALL_RECORD: [u8; 27] = [
     4, 3, 4, 4, 10, 12, 1, 20, 2, 1, 20, 1, 3, 80, 1, 0, 0, 0, 0, 0, 2, 1, 0, 0, 0, 0, 3,
 ];
 
+/// Its record under connectivity 6: pixel 11 is at the lower right of pixel 6, so
+/// the node of level 30 has it too.
+pub const SMALL_RECORD_6: [u8; 27] = [
+    4, 3, 6, 4, 10, 12, 1, 20, 3, 1, 20, 1, 2, 60, 1, 0, 0, 0, 0, 0, 2, 1, 0, 0, 0, 0, 3,
+];
+
+/// Both.
+pub static SMALL_RECORDS: [[u8; 27]; 2] = [SMALL_RECORD, SMALL_RECORD_6];
+
+/// Connectivities, each with a number that is none.
+pub const FIT_AND_UNFIT: [(u32, u32); 4] = [(4, 3), (6, 5), (6, 7), (8, 9)];
+
 /// What a lent byte holds before the call.
 pub const BYTE: u8 = 0xA5;
 /// What a lent 32-bit number holds before the call.
@@ -51,6 +63,11 @@ impl Lcg {
             _ => self.below(256) as u8,
         }
     }
+}
+
+/// The connectivities in turn, round after round.
+pub fn in_turn(round: usize) -> u32 {
+    CONNECTIVITIES[round % CONNECTIVITIES.len()]
 }
 
 /// Work space of this many entries, all sentinels.
@@ -232,6 +249,12 @@ impl Joint {
         };
         write_cut_list(plate, w, h, c, limit, outputs, &mut self.work)
     }
+}
+
+/// The beginnings of both records of the small plate, none of them whole.
+pub fn beginnings() -> impl Iterator<Item = &'static [u8]> {
+    let records = SMALL_RECORDS.iter();
+    records.flat_map(|record| (0..record.len()).map(move |length| &record[..length]))
 }
 
 /// A plate file with the usual header.

@@ -54,7 +54,7 @@ fn greatest(plate: &[u8], set: &[usize]) -> u8 {
 fn on_tiny_plates(check: fn(&Grid, &[u8], &[Vec<usize>])) {
     let mut random = Lcg(20);
     for (width, height) in [(1, 1), (1, 5), (2, 2), (3, 2), (3, 3), (4, 2), (2, 5)] {
-        for connectivity in [4, 8] {
+        for connectivity in CONNECTIVITIES {
             let grid = Grid::new(width, height, connectivity);
             let sets = connected_sets(&grid);
             for round in 0..60 {
@@ -178,7 +178,7 @@ fn all_256_thresholds_give_no_other_nodes() {
     let every: Vec<u8> = (0..=255).collect();
     for round in 0..100 {
         let (plate, width, height) = random.plate(6);
-        let grid = Grid::new(width, height, 4 + 4 * (round % 2));
+        let grid = Grid::new(width, height, in_turn(round));
         let few = node_sets(&grid, &plate, &grid::thresholds(&plate));
         assert_eq!(few, node_sets(&grid, &plate, &every));
     }
@@ -189,7 +189,7 @@ fn grey_lost_where_no_node_has_the_area_is_zero() {
     let mut random = Lcg(22);
     for round in 0..100 {
         let (plate, width, height) = random.plate(5);
-        let grid = Grid::new(width, height, 4 + 4 * (round % 2));
+        let grid = Grid::new(width, height, in_turn(round));
         let nodes = nodes_of(&grid, &plate);
         let sizes = sizes_of(&grid, &plate, &nodes);
         for a in 1..plate.len() {

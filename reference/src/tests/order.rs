@@ -4,19 +4,20 @@
 use super::helpers::*;
 use crate::*;
 
+/// A plate that is too long for the small plate's width and height.
+const LONG_PLATE: [u8; 13] = [0; 13];
+
 /// Cleaning on a side, the later conditions mended one after another: the
 /// number is `refusal` of the one that the later conditions give.
-fn check_cleaning(side: u32, refusal: fn(u32) -> u32) {
-    let small = SMALL.to_vec();
-    let long = vec![0; 13];
+fn check_cleaning(side: u32, (fit, unfit): (u32, u32), refusal: fn(u32) -> u32) {
     let cases = [
-        (&long, 0, 3, 3, 0, 0, 0, 1),
-        (&long, 0, 3, 4, 0, 0, 0, 2),
-        (&long, 4, 3, 4, 0, 0, 0, 3),
-        (&small, 4, 3, 4, 0, 0, 0, 4),
-        (&small, 4, 3, 4, 12, 0, 0, 5),
-        (&small, 4, 3, 4, 12, 12, 0, 6),
-        (&small, 4, 3, 4, 12, 12, 96, 0),
+        (&LONG_PLATE[..], 0, 3, unfit, 0, 0, 0, 1),
+        (&LONG_PLATE, 0, 3, fit, 0, 0, 0, 2),
+        (&LONG_PLATE, 4, 3, fit, 0, 0, 0, 3),
+        (&SMALL, 4, 3, fit, 0, 0, 0, 4),
+        (&SMALL, 4, 3, fit, 12, 0, 0, 5),
+        (&SMALL, 4, 3, fit, 12, 12, 0, 6),
+        (&SMALL, 4, 3, fit, 12, 12, 96, 0),
     ];
     for (plate, w, h, c, limit, places, entries, number) in cases {
         let (mut out, mut work) = (vec![BYTE; places], work_of(entries));
@@ -30,28 +31,30 @@ fn check_cleaning(side: u32, refusal: fn(u32) -> u32) {
 #[test]
 fn cleaning_in_order() {
     for side in SIDES {
-        check_cleaning(side, |number| number);
+        for pair in FIT_AND_UNFIT {
+            check_cleaning(side, pair, |number| number);
+        }
     }
 }
 
 #[test]
 fn the_side_comes_before_every_other_condition() {
     for side in [0, 3, u32::MAX] {
-        check_cleaning(side, |_| 26);
+        for pair in FIT_AND_UNFIT {
+            check_cleaning(side, pair, |_| 26);
+        }
     }
 }
 
-#[test]
-fn marking_in_order() {
-    let small = SMALL.to_vec();
-    let long = vec![0; 13];
+/// The conditions of marking, mended one after another.
+fn check_marking((fit, unfit): (u32, u32)) {
     let cases = [
-        (&long, 0, 3, 3, 0, 0, 1),
-        (&long, 0, 3, 4, 0, 0, 2),
-        (&long, 4, 3, 4, 0, 0, 3),
-        (&small, 4, 3, 4, 0, 0, 5),
-        (&small, 4, 3, 4, 12, 0, 6),
-        (&small, 4, 3, 4, 12, 96, 0),
+        (&LONG_PLATE[..], 0, 3, unfit, 0, 0, 1),
+        (&LONG_PLATE, 0, 3, fit, 0, 0, 2),
+        (&LONG_PLATE, 4, 3, fit, 0, 0, 3),
+        (&SMALL, 4, 3, fit, 0, 0, 5),
+        (&SMALL, 4, 3, fit, 12, 0, 6),
+        (&SMALL, 4, 3, fit, 12, 96, 0),
     ];
     for (plate, w, h, c, places, entries, number) in cases {
         let (mut out, mut work) = (vec![BYTE; places], work_of(entries));
@@ -61,16 +64,21 @@ fn marking_in_order() {
 }
 
 #[test]
-fn listing_and_writing_in_order() {
-    let small = SMALL.to_vec();
-    let long = vec![0; 13];
+fn marking_in_order() {
+    for pair in FIT_AND_UNFIT {
+        check_marking(pair);
+    }
+}
+
+/// The conditions of the node list and of writing, mended one after another.
+fn check_listing_and_writing((fit, unfit): (u32, u32)) {
     let cases = [
-        (&long, 0, 3, 3, 0, 0, 1),
-        (&long, 0, 3, 4, 0, 0, 2),
-        (&long, 4, 3, 4, 0, 0, 3),
-        (&small, 4, 3, 4, 0, 0, 6),
-        (&small, 4, 3, 4, 0, 96, 5),
-        (&small, 4, 3, 4, 27, 96, 0),
+        (&LONG_PLATE[..], 0, 3, unfit, 0, 0, 1),
+        (&LONG_PLATE, 0, 3, fit, 0, 0, 2),
+        (&LONG_PLATE, 4, 3, fit, 0, 0, 3),
+        (&SMALL, 4, 3, fit, 0, 0, 6),
+        (&SMALL, 4, 3, fit, 0, 96, 5),
+        (&SMALL, 4, 3, fit, 27, 96, 0),
     ];
     for (plate, w, h, c, places, entries, number) in cases {
         let (mut out, mut work) = (vec![BYTE; places], work_of(entries));
@@ -82,42 +90,53 @@ fn listing_and_writing_in_order() {
 }
 
 #[test]
+fn listing_and_writing_in_order() {
+    for pair in FIT_AND_UNFIT {
+        check_listing_and_writing(pair);
+    }
+}
+
+/// The joint operation over buffers of these lengths (cut, counts, losses, work
+/// space, record) gives this number and leaves the buffers as it says.
+fn check_joint(plate: &[u8], shape: (u32, u32, u32), limit: u32, lengths: [usize; 5], number: u32) {
+    let [cut, counts, losses, work, record] = lengths;
+    let mut lent = Joint::of([record, cut, counts, losses, work]);
+    let head = lent.run(plate, shape, limit);
+    assert_eq!(head.refusal, number);
+    let untouched = number != 0 && work < 96;
+    assert!(if untouched {
+        work_untouched(&lent.work)
+    } else {
+        work_zeroed(&lent.work, 12)
+    });
+    if number != 0 {
+        let refused = JointHead {
+            refusal: number,
+            ..JointHead::default()
+        };
+        assert_eq!(head, refused);
+        lent.work = work_of(work);
+        assert_eq!(lent, Joint::of([record, cut, counts, losses, work]));
+    }
+}
+
+#[test]
 fn the_joint_operation_in_order() {
-    let small = SMALL.to_vec();
-    let long = vec![0; 13];
-    // plate, shape, limit, places of cut, counts, losses, work space and record, and the number
-    let cases = [
-        (&long, (0, 3, 3), 0, [0; 5], 1),
-        (&long, (0, 3, 4), 0, [0; 5], 2),
-        (&long, (4, 3, 4), 0, [0; 5], 3),
-        (&small, (4, 3, 4), 0, [0; 5], 4),
-        (&small, (4, 3, 4), 13, [0; 5], 4),
-        (&small, (4, 3, 4), 12, [11, 11, 11, 0, 0], 5),
-        (&small, (4, 3, 4), 12, [12, 10, 11, 0, 0], 5),
-        (&small, (4, 3, 4), 12, [12, 11, 10, 0, 0], 5),
-        (&small, (4, 3, 4), 12, [12, 11, 11, 95, 0], 6),
-        (&small, (4, 3, 4), 12, [12, 11, 11, 96, 26], 5),
-        (&small, (4, 3, 4), 12, [12, 11, 11, 96, 27], 0),
-    ];
-    for (plate, shape, limit, [cut, counts, losses, work, record], number) in cases {
-        let mut lent = Joint::of([record, cut, counts, losses, work]);
-        let head = lent.run(plate, shape, limit);
-        assert_eq!(head.refusal, number);
-        let untouched = number != 0 && work < 96;
-        assert!(if untouched {
-            work_untouched(&lent.work)
-        } else {
-            work_zeroed(&lent.work, 12)
-        });
-        if number != 0 {
-            let refused = JointHead {
-                refusal: number,
-                ..JointHead::default()
-            };
-            assert_eq!(head, refused);
-            lent.work = work_of(work);
-            assert_eq!(lent, Joint::of([record, cut, counts, losses, work]));
-        }
+    for (fit, unfit) in FIT_AND_UNFIT {
+        check_joint(&LONG_PLATE, (0, 3, unfit), 0, [0; 5], 1);
+        check_joint(&LONG_PLATE, (0, 3, fit), 0, [0; 5], 2);
+        check_joint(&LONG_PLATE, (4, 3, fit), 0, [0; 5], 3);
+        let small = |limit, lengths, number| {
+            check_joint(&SMALL, (4, 3, fit), limit, lengths, number);
+        };
+        small(0, [0; 5], 4);
+        small(13, [0; 5], 4);
+        small(12, [11, 11, 11, 0, 0], 5);
+        small(12, [12, 10, 11, 0, 0], 5);
+        small(12, [12, 11, 10, 0, 0], 5);
+        small(12, [12, 11, 11, 95, 0], 6);
+        small(12, [12, 11, 11, 96, 26], 5);
+        small(12, [12, 11, 11, 96, 27], 0);
     }
 }
 
@@ -172,8 +191,7 @@ fn record_refusals(record: &[u8], limit: u32, places: usize, entries: usize) -> 
 
 #[test]
 fn at_each_field_20_then_21_then_22() {
-    for at in 0..27 {
-        let before = &SMALL_RECORD[..at];
+    for before in beginnings() {
         let work = 96;
         let endless = [before, &[128; 9]].concat();
         assert_eq!(record_refusals(&endless, 0, 0, work), [20; 3]);
@@ -186,8 +204,7 @@ fn at_each_field_20_then_21_then_22() {
 
 #[test]
 fn an_earlier_field_decides() {
-    for at in 0..26 {
-        let before = &SMALL_RECORD[..at];
+    for before in beginnings().filter(|before| before.len() < 26) {
         let outside_then_short = [before, &[255, 255, 127]].concat();
         assert_eq!(record_refusals(&outside_then_short, 0, 0, 96), [22; 3]);
         let outside_then_long = [before, &[255, 255, 127, 128, 0]].concat();
@@ -199,25 +216,24 @@ fn an_earlier_field_decides() {
 
 #[test]
 fn short_work_space_stands_behind_the_node_count() {
-    for at in 0..27 {
-        let bad_here = [&SMALL_RECORD[..at], &[255, 255, 127]].concat();
-        let ends_here = &SMALL_RECORD[..at];
-        let (outside, ended) = if at < 4 { (22, 20) } else { (6, 6) };
+    for before in beginnings() {
+        let bad_here = [before, &[255, 255, 127]].concat();
+        let (outside, ended) = if before.len() < 4 { (22, 20) } else { (6, 6) };
         assert_eq!(record_refusals(&bad_here, 0, 0, 95), [outside; 3]);
-        assert_eq!(record_refusals(ends_here, 0, 0, 95), [ended; 3]);
+        assert_eq!(record_refusals(before, 0, 0, 95), [ended; 3]);
     }
 }
 
 #[test]
 fn work_space_behind_and_ahead_of_6() {
-    for at in 0..27 {
+    for before in beginnings() {
         for tail in [&[][..], &[128, 0], &[255, 255, 127]] {
-            let record = [&SMALL_RECORD[..at], tail].concat();
+            let record = [before, tail].concat();
             let (mut out, mut work) = ([BYTE; 12], work_of(99));
             let answer = read_record(&record, &mut out, &mut work);
             assert!(matches!(answer.refusal, 20..=22));
             assert_eq!(out, [BYTE; 12]);
-            assert!(if at < 4 {
+            assert!(if before.len() < 4 {
                 work_untouched(&work)
             } else {
                 work_zeroed(&work, 12)
@@ -228,14 +244,16 @@ fn work_space_behind_and_ahead_of_6() {
 
 #[test]
 fn behind_the_fields_23_then_24_then_4_then_5() {
-    let mut differing = SMALL_RECORD.to_vec();
-    differing[8] = 3;
-    let left_over = [&differing[..], &[128]].concat();
-    assert_eq!(record_refusals(&left_over, 0, 0, 95), [6; 3]);
-    assert_eq!(record_refusals(&left_over, 0, 0, 96), [23; 3]);
-    assert_eq!(record_refusals(&differing, 0, 0, 96), [24; 3]);
-    assert_eq!(record_refusals(&SMALL_RECORD, 0, 0, 96), [5, 4, 5]);
-    assert_eq!(record_refusals(&SMALL_RECORD, 1, 0, 96), [5; 3]);
-    assert_eq!(record_refusals(&SMALL_RECORD, 1, 11, 96), [5, 5, 0]);
-    assert_eq!(record_refusals(&SMALL_RECORD, 1, 12, 96), [0; 3]);
+    for record in SMALL_RECORDS {
+        let mut differing = record.to_vec();
+        differing[8] += 1;
+        let left_over = [&differing[..], &[128]].concat();
+        assert_eq!(record_refusals(&left_over, 0, 0, 95), [6; 3]);
+        assert_eq!(record_refusals(&left_over, 0, 0, 96), [23; 3]);
+        assert_eq!(record_refusals(&differing, 0, 0, 96), [24; 3]);
+        assert_eq!(record_refusals(&record, 0, 0, 96), [5, 4, 5]);
+        assert_eq!(record_refusals(&record, 1, 0, 96), [5; 3]);
+        assert_eq!(record_refusals(&record, 1, 11, 96), [5, 5, 0]);
+        assert_eq!(record_refusals(&record, 1, 12, 96), [0; 3]);
+    }
 }

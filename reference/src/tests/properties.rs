@@ -25,7 +25,7 @@ fn records_read_back() {
     let mut random = Lcg(30);
     for round in 0..600 {
         let (plate, width, height) = random.plate(8);
-        let connectivity = 4 + 4 * (round % 2);
+        let connectivity = in_turn(round);
         let record = written(&plate, width, height, connectivity);
         let (answer, back) = read_back(&record, plate.len());
         assert_eq!(answer, head(width, height, connectivity));
@@ -38,7 +38,7 @@ fn records_agree_with_the_node_list() {
     let mut random = Lcg(31);
     for round in 0..200 {
         let (plate, width, height) = random.plate(6);
-        let connectivity = 4 + 4 * (round % 2);
+        let connectivity = in_turn(round);
         let columns = listed(&plate, width, height, connectivity);
         let (answer, counts, _) = sized(&written(&plate, width, height, connectivity), plate.len());
         assert_eq!(answer.nodes as usize, columns.levels.len());
@@ -59,7 +59,7 @@ fn cuts_and_lists_of_random_plates() {
     let mut random = Lcg(32);
     for round in 0..250 {
         let (plate, width, height) = random.plate(6);
-        let connectivity = 4 + 4 * (round % 2);
+        let connectivity = in_turn(round);
         check_cuts_and_list(&plate, width, height, connectivity);
     }
 }
@@ -135,7 +135,7 @@ fn step_below(bound: &[u8], plate: &mut [u8]) -> bool {
 fn the_cut_is_the_lightest_with_large_maxima() {
     let mut random = Lcg(33);
     for (width, height) in [(1, 1), (4, 1), (2, 2), (3, 2), (2, 4), (3, 3)] {
-        for connectivity in [4, 8] {
+        for connectivity in CONNECTIVITIES {
             let grid = Grid::new(width, height, connectivity);
             for _ in 0..8 {
                 let greys = if grid.pixels() < 9 { 4 } else { 3 };
@@ -154,7 +154,7 @@ fn altered_records_are_accepted_only_as_records() {
     let mut numbers = [0u32; 25];
     for round in 0..6000 {
         let (plate, width, height) = random.plate(3);
-        let mut record = written(&plate, width, height, 4 + 4 * (round % 2));
+        let mut record = written(&plate, width, height, in_turn(round));
         alter(&mut random, &mut record);
         let (mut out, mut work) = (vec![BYTE; 200], work_of(1600));
         let answer = read_record(&record, &mut out, &mut work);
@@ -179,7 +179,7 @@ fn altered_records_are_accepted_only_as_records() {
 /// Alters a record at one place: a byte changed, taken out or put in.
 fn alter(random: &mut Lcg, record: &mut Vec<u8>) {
     let at = random.below(record.len() as u32) as usize;
-    let small = random.below(6) as u8;
+    let small = random.below(9) as u8;
     match random.below(8) {
         0 => record.truncate(at),
         1 => record.push(small),
@@ -212,7 +212,7 @@ fn entries_hold_the_columns() {
     let mut random = Lcg(36);
     for round in 0..200 {
         let (plate, width, height) = random.plate(6);
-        let connectivity = 4 + 4 * (round % 2);
+        let connectivity = in_turn(round);
         let columns = listed(&plate, width, height, connectivity);
         let count = columns.levels.len();
         let before = NodeEntry::of([WORD; 4]);
@@ -241,7 +241,7 @@ fn the_joint_operation_is_the_three_in_turn() {
     let mut random = Lcg(37);
     for round in 0..200 {
         let (plate, width, height) = random.plate(6);
-        let connectivity = 4 + 4 * (round % 2);
+        let connectivity = in_turn(round);
         let n = plate.len();
         let limit = 1 + random.below(n as u32);
         let record = written(&plate, width, height, connectivity);
@@ -291,7 +291,7 @@ fn light_on_a_plate_and_dark_on_its_negative_are_negatives() {
     let mut random = Lcg(39);
     for round in 0..600 {
         let (plate, width, height) = random.plate(8);
-        let connectivity = 4 + 4 * (round % 2);
+        let connectivity = in_turn(round);
         let limit = 1 + random.below(plate.len() as u32);
         let negated = negative(&plate);
         let light = cleaned(LIGHT, &plate, width, height, connectivity, limit);

@@ -1,29 +1,29 @@
 //! Each refusal number of each operation, and what it leaves in the buffers.
 
 use super::helpers::*;
+use crate::cases::{replaced, UNFIT};
 use crate::varint::{spelled, take_field};
 use crate::*;
 
-/// Heads that the grid refuses: width, height, connectivity, plate length,
-/// and the number.
-const BAD_HEADS: [(u32, u32, u32, usize, u32); 12] = [
-    (4, 3, 0, 12, 1),
-    (4, 3, 5, 12, 1),
-    (4, 3, 6, 12, 1),
-    (4, 3, u32::MAX, 12, 1),
+/// Heads that the grid refuses though their connectivity is one: width, height,
+/// connectivity, plate length, and the number.
+const BAD_HEADS: [(u32, u32, u32, usize, u32); 10] = [
     (0, 3, 4, 0, 2),
+    (0, 3, 6, 0, 2),
     (4, 0, 8, 0, 2),
     (32_769, 1, 4, 32_769, 2),
     (1, 32_769, 4, 32_769, 2),
     (32_768, 513, 4, 12, 2),
     (u32::MAX, u32::MAX, 8, 12, 2),
     (4, 3, 4, 11, 3),
+    (4, 3, 6, 13, 3),
     (4, 3, 8, 13, 3),
 ];
 
 #[test]
 fn the_grid_refuses_for_every_operation_on_a_plate() {
-    for (w, h, c, length, number) in BAD_HEADS {
+    let unfit = UNFIT.map(|number| (4, 3, number, 12, 1));
+    for (w, h, c, length, number) in BAD_HEADS.into_iter().chain(unfit) {
         let plate = vec![10; length];
         let (mut out, mut work) = (vec![BYTE; 200], work_of(400));
         let mut columns = Columns::of([20; 4]);
@@ -51,11 +51,13 @@ fn the_greatest_grids_are_within() {
 /// Cleans the small plate with buffers of these lengths and checks that it
 /// is refused by this number, the buffers untouched.
 fn cleaning_refuses(side: u32, limit: u32, places: usize, entries: usize, number: u32) {
-    let (mut out, mut work) = (vec![BYTE; places], work_of(entries));
-    let cleaning = clean(side, &SMALL, 4, 3, 4, limit, &mut out, &mut work);
-    assert_eq!(cleaning.refusal, number);
-    assert_eq!(out, vec![BYTE; places]);
-    assert!(work_untouched(&work));
+    for connectivity in CONNECTIVITIES {
+        let (mut out, mut work) = (vec![BYTE; places], work_of(entries));
+        let cleaning = clean(side, &SMALL, 4, 3, connectivity, limit, &mut out, &mut work);
+        assert_eq!(cleaning.refusal, number);
+        assert_eq!(out, vec![BYTE; places]);
+        assert!(work_untouched(&work));
+    }
 }
 
 #[test]
@@ -78,52 +80,58 @@ fn cleaning_refuses_other_sides_by_26() {
 
 #[test]
 fn marking_refuses_5_and_6() {
-    for (places, entries, number) in [(11, 96, 5), (12, 95, 6)] {
-        let (mut out, mut work) = (vec![BYTE; places], work_of(entries));
-        let marking = regional_maxima(&SMALL, 4, 3, 4, &mut out, &mut work);
-        assert_eq!(marking.refusal, number);
-        assert_eq!(out, vec![BYTE; places]);
-        assert!(work_untouched(&work));
+    for connectivity in CONNECTIVITIES {
+        for (places, entries, number) in [(11, 96, 5), (12, 95, 6)] {
+            let (mut out, mut work) = (vec![BYTE; places], work_of(entries));
+            let marking = regional_maxima(&SMALL, 4, 3, connectivity, &mut out, &mut work);
+            assert_eq!(marking.refusal, number);
+            assert_eq!(out, vec![BYTE; places]);
+            assert!(work_untouched(&work));
+        }
     }
 }
 
 #[test]
 fn the_node_list_refuses_6_then_5() {
-    let mut columns = Columns::of([0; 4]);
-    let mut work = work_of(95);
-    let answer = node_list(&SMALL, 4, 3, 4, columns.lent(), &mut work);
-    assert_eq!((answer.refusal, answer.count), (6, 0));
-    assert!(work_untouched(&work));
-    for short in 0..4 {
-        let mut lengths = [4; 4];
-        lengths[short] = 3;
-        let mut columns = Columns::of(lengths);
-        let mut work = work_of(100);
-        let answer = node_list(&SMALL, 4, 3, 4, columns.lent(), &mut work);
-        assert_eq!((answer.refusal, answer.count), (5, 0));
-        assert_eq!(columns, Columns::of(lengths));
-        assert!(work_zeroed(&work, 12));
+    for connectivity in CONNECTIVITIES {
+        let list = |lengths: [usize; 4], entries: usize| {
+            let mut columns = Columns::of(lengths);
+            let mut work = work_of(entries);
+            let answer = node_list(&SMALL, 4, 3, connectivity, columns.lent(), &mut work);
+            let untouched = columns == Columns::of(lengths);
+            (answer.refusal, answer.count, untouched, work)
+        };
+        assert_eq!(list([0; 4], 95), (6, 0, true, work_of(95)));
+        for short in 0..4 {
+            let mut lengths = [4; 4];
+            lengths[short] = 3;
+            let (refusal, count, untouched, work) = list(lengths, 100);
+            assert_eq!((refusal, count, untouched), (5, 0, true));
+            assert!(work_zeroed(&work, 12));
+        }
+        let (refusal, count, untouched, _) = list([4; 4], 96);
+        assert_eq!((refusal, count, untouched), (0, 4, false));
     }
-    let mut columns = Columns::of([4; 4]);
-    let answer = node_list(&SMALL, 4, 3, 4, columns.lent(), &mut work_of(96));
-    assert_eq!((answer.refusal, answer.count), (0, 4));
 }
 
 #[test]
 fn writing_refuses_6_then_5() {
-    let (mut out, mut work) = (vec![BYTE; 26], work_of(95));
-    let answer = write_record(&SMALL, 4, 3, 4, &mut out, &mut work);
-    assert_eq!((answer.refusal, answer.length), (6, 0));
-    assert!(work_untouched(&work));
-    let mut work = work_of(99);
-    let answer = write_record(&SMALL, 4, 3, 4, &mut out, &mut work);
-    assert_eq!((answer.refusal, answer.length), (5, 0));
-    assert_eq!(out, [BYTE; 26]);
-    assert!(work_zeroed(&work, 12));
-    let mut out = [BYTE; 27];
-    let answer = write_record(&SMALL, 4, 3, 4, &mut out, &mut work);
-    assert_eq!((answer.refusal, answer.length), (0, 27));
-    assert_eq!(out, SMALL_RECORD);
+    for (connectivity, record) in [(4, SMALL_RECORD), (6, SMALL_RECORD_6)] {
+        let write = |out: &mut [u8], work: &mut [u32]| {
+            let answer = write_record(&SMALL, 4, 3, connectivity, out, work);
+            (answer.refusal, answer.length)
+        };
+        let (mut out, mut work) = (vec![BYTE; 26], work_of(95));
+        assert_eq!(write(&mut out, &mut work), (6, 0));
+        assert!(work_untouched(&work));
+        let mut work = work_of(99);
+        assert_eq!(write(&mut out, &mut work), (5, 0));
+        assert_eq!(out, [BYTE; 26]);
+        assert!(work_zeroed(&work, 12));
+        let mut out = [BYTE; 27];
+        assert_eq!(write(&mut out, &mut work), (0, 27));
+        assert_eq!(out, record);
+    }
 }
 
 /// The number with which a record of at most 12 pixels is refused by reading,
@@ -155,26 +163,21 @@ fn record_refusal(record: &[u8]) -> u32 {
     refusal
 }
 
-/// The small plate's record with one byte replaced by others.
-fn small_with(at: usize, bytes: &[u8]) -> Vec<u8> {
-    [&SMALL_RECORD[..at], bytes, &SMALL_RECORD[at + 1..]].concat()
-}
-
 #[test]
 fn every_shorter_record_gives_20() {
-    for length in 0..27 {
-        assert_eq!(record_refusal(&SMALL_RECORD[..length]), 20);
-        let continued = [&SMALL_RECORD[..length], &[128]].concat();
+    for before in beginnings() {
+        assert_eq!(record_refusal(before), 20);
+        let continued = [before, &[128]].concat();
         assert_eq!(record_refusal(&continued), 20);
     }
 }
 
 #[test]
 fn a_field_without_end_gives_20_however_long() {
-    for at in 0..27 {
+    for before in beginnings() {
         for (byte, length) in [(128, 1), (128, 10), (255, 10), (128, 300), (255, 300)] {
             let run = vec![byte; length];
-            let record = [&SMALL_RECORD[..at], &run].concat();
+            let record = [before, &run].concat();
             assert_eq!(record_refusal(&record), 20);
         }
     }
@@ -182,29 +185,29 @@ fn a_field_without_end_gives_20_however_long() {
 
 #[test]
 fn a_form_not_shortest_or_too_large_gives_21_at_each_field() {
-    for (at, value) in SMALL_RECORD.into_iter().enumerate() {
-        assert_eq!(record_refusal(&small_with(at, &[value + 128, 0])), 21);
-        let long = [&[value + 128], &[128; 40][..], &[0]].concat();
-        assert_eq!(record_refusal(&small_with(at, &long)), 21);
-        let too_large = [128, 128, 128, 128, 16];
-        assert_eq!(record_refusal(&small_with(at, &too_large)), 21);
-        let largest = [255, 255, 255, 255, 15];
-        assert_eq!(record_refusal(&small_with(at, &largest)), 22);
-        let far_too_large = [&[128; 60][..], &[1]].concat();
-        assert_eq!(record_refusal(&small_with(at, &far_too_large)), 21);
+    for record in SMALL_RECORDS {
+        for (at, value) in record.into_iter().enumerate() {
+            let refusal = |bytes: &[u8]| record_refusal(&replaced(&record, at, bytes));
+            let first = value + 128;
+            assert_eq!(refusal(&[first, 0]), 21);
+            assert_eq!(refusal(&[&[first], &[128; 40][..], &[0]].concat()), 21);
+            let too_large = [128, 128, 128, 128, 16];
+            assert_eq!(refusal(&too_large), 21);
+            let largest = [255, 255, 255, 255, 15];
+            assert_eq!(refusal(&largest), 22);
+            let far_too_large = [&[128; 60][..], &[1]].concat();
+            assert_eq!(refusal(&far_too_large), 21);
+        }
     }
 }
 
 #[test]
 fn values_outside_their_range_give_22() {
-    let cases: [(usize, u32); 27] = [
+    let cases: [(usize, u32); 24] = [
         (0, 0),
         (0, 32_769),
         (1, 0),
         (1, 32_769),
-        (2, 0),
-        (2, 5),
-        (2, 9),
         (3, 0),
         (3, 13),
         (4, 256),
@@ -226,18 +229,21 @@ fn values_outside_their_range_give_22() {
         (15, 4),
         (26, 4),
     ];
-    for (at, value) in cases {
-        assert_eq!(record_refusal(&small_with(at, &spelled(value))), 22);
+    for (at, value) in cases.into_iter().chain(UNFIT.map(|number| (2, number))) {
+        for record in SMALL_RECORDS {
+            assert_eq!(record_refusal(&replaced(&record, at, &spelled(value))), 22);
+        }
     }
 }
 
 #[test]
 fn the_end_values_of_each_range_are_taken() {
-    let cases: [(usize, u32); 23] = [
+    let cases: [(usize, u32); 24] = [
         (0, 1),
         (0, 32_768),
         (1, 1),
         (2, 4),
+        (2, 6),
         (2, 8),
         (3, 1),
         (3, 12),
@@ -299,21 +305,36 @@ fn small_refusal(record: &[u8], pixels: usize) -> (u32, bool) {
 
 #[test]
 fn bytes_left_over_give_23() {
-    for tail in [&[0][..], &[128], &[4, 3], &[255; 30]] {
-        let record = [&SMALL_RECORD, tail].concat();
-        assert_eq!(record_refusal(&record), 23);
+    for record in SMALL_RECORDS {
+        for tail in [&[0][..], &[128], &[4, 3], &[255; 30]] {
+            assert_eq!(record_refusal(&[&record, tail].concat()), 23);
+        }
+        let wrong_area_too = [&replaced(&record, 8, &[4])[..], &[0]].concat();
+        assert_eq!(record_refusal(&wrong_area_too), 23);
     }
-    let wrong_area_too = [&small_with(8, &[3])[..], &[0]].concat();
-    assert_eq!(record_refusal(&wrong_area_too), 23);
 }
 
 #[test]
 fn bytes_that_differ_from_the_record_give_24() {
-    for (at, value) in [(5, 11), (8, 3), (11, 2), (14, 2), (2, 8), (9, 2)] {
-        assert_eq!(record_refusal(&small_with(at, &[value])), 24);
+    for record in SMALL_RECORDS {
+        for (at, value) in [(5, 11), (8, 4), (11, 2), (14, 2), (9, 2)] {
+            assert_eq!(record_refusal(&replaced(&record, at, &[value])), 24);
+        }
+        // A greater rise of node 1 spells another plate, and is its record.
+        let risen = replaced(&record, 7, &[21]);
+        assert_eq!(small_refusal(&risen, 12), (0, true));
     }
-    // A greater rise of node 1 spells another plate, and is its record.
-    assert_eq!(small_refusal(&small_with(7, &[21]), 12), (0, true));
+}
+
+#[test]
+fn bytes_for_another_connectivity_give_24_or_are_its_record() {
+    for other in [6, 8] {
+        assert_eq!(record_refusal(&replaced(&SMALL_RECORD, 2, &[other])), 24);
+    }
+    assert_eq!(record_refusal(&replaced(&SMALL_RECORD_6, 2, &[4])), 24);
+    let eight = replaced(&SMALL_RECORD_6, 2, &[8]);
+    assert_eq!(written(&SMALL, 4, 3, 8), eight);
+    assert_eq!(read_back(&eight, 12), (head(4, 3, 8), SMALL.to_vec()));
 }
 
 #[test]
@@ -332,38 +353,42 @@ fn nodes_without_pixels_or_out_of_order_give_24() {
 
 #[test]
 fn reading_cutting_and_the_size_list_refuse_5() {
-    let (mut out, mut work) = (vec![BYTE; 11], work_of(99));
-    let reading = read_record(&SMALL_RECORD, &mut out, &mut work);
-    assert_eq!((reading.refusal, reading.width), (5, 0));
-    assert!(work_zeroed(&work, 12));
-    let mut work = work_of(99);
-    let cutting = cut_record(&SMALL_RECORD, 12, &mut out, &mut work);
-    assert_eq!((cutting.refusal, cutting.width), (5, 0));
-    assert!(work_zeroed(&work, 12));
-    assert_eq!(out, [BYTE; 11]);
-    for (c, l) in [(10, 11), (11, 10), (0, 0)] {
-        let (mut counts, mut losses) = (vec![WORD; c], vec![LONG; l]);
-        let mut work = work_of(99);
-        let listing = size_list(&SMALL_RECORD, &mut counts, &mut losses, &mut work);
-        assert_eq!((listing.refusal, listing.nodes), (5, 0));
-        assert_eq!((counts, losses), (vec![WORD; c], vec![LONG; l]));
+    for record in SMALL_RECORDS {
+        let (mut out, mut work) = (vec![BYTE; 11], work_of(99));
+        let reading = read_record(&record, &mut out, &mut work);
+        assert_eq!((reading.refusal, reading.width), (5, 0));
         assert!(work_zeroed(&work, 12));
+        let mut work = work_of(99);
+        let cutting = cut_record(&record, 12, &mut out, &mut work);
+        assert_eq!((cutting.refusal, cutting.width), (5, 0));
+        assert!(work_zeroed(&work, 12));
+        assert_eq!(out, [BYTE; 11]);
+        for (c, l) in [(10, 11), (11, 10), (0, 0)] {
+            let (mut counts, mut losses) = (vec![WORD; c], vec![LONG; l]);
+            let mut work = work_of(99);
+            let listing = size_list(&record, &mut counts, &mut losses, &mut work);
+            assert_eq!((listing.refusal, listing.nodes), (5, 0));
+            assert_eq!((counts, losses), (vec![WORD; c], vec![LONG; l]));
+            assert!(work_zeroed(&work, 12));
+        }
     }
 }
 
 #[test]
 fn short_work_space_gives_6_and_stays_untouched() {
-    for entries in [0, 1, 95] {
-        let (mut out, mut work) = ([BYTE; 12], work_of(entries));
-        let (mut counts, mut losses) = ([WORD; 11], [LONG; 11]);
-        let reading = read_record(&SMALL_RECORD, &mut out, &mut work);
-        let cutting = cut_record(&SMALL_RECORD, 0, &mut out, &mut work);
-        let listing = size_list(&SMALL_RECORD, &mut counts, &mut losses, &mut work);
-        assert_eq!(reading.refusal, 6);
-        assert_eq!(cutting.refusal, 6);
-        assert_eq!(listing.refusal, 6);
-        assert_eq!((out, counts, losses), ([BYTE; 12], [WORD; 11], [LONG; 11]));
-        assert!(work_untouched(&work));
+    for record in SMALL_RECORDS {
+        for entries in [0, 1, 95] {
+            let (mut out, mut work) = ([BYTE; 12], work_of(entries));
+            let (mut counts, mut losses) = ([WORD; 11], [LONG; 11]);
+            let reading = read_record(&record, &mut out, &mut work);
+            let cutting = cut_record(&record, 0, &mut out, &mut work);
+            let listing = size_list(&record, &mut counts, &mut losses, &mut work);
+            assert_eq!(reading.refusal, 6);
+            assert_eq!(cutting.refusal, 6);
+            assert_eq!(listing.refusal, 6);
+            assert_eq!((out, counts, losses), ([BYTE; 12], [WORD; 11], [LONG; 11]));
+            assert!(work_untouched(&work));
+        }
     }
 }
 

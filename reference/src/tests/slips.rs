@@ -32,20 +32,17 @@ fn a_maximum_sinks_until_it_is_large_enough() {
 
 #[test]
 fn nothing_wraps_round_an_edge() {
-    for connectivity in [4, 8] {
-        assert!(!touching(3, connectivity, 2, 3));
-        assert!(!touching(3, connectivity, 0, 5));
-        assert!(!touching(3, connectivity, 0, 2));
-    }
-    let plate = [1, 1, 9, 9, 1, 1];
-    assert_eq!(cleaned(LIGHT, &plate, 3, 2, 8, 2), [1; 6]);
-}
-
-#[test]
-fn touching_by_rows_and_columns() {
-    for p in 0..9 {
-        assert_eq!(touching(3, 4, 4, p), [1, 3, 5, 7].contains(&p));
-        assert_eq!(touching(3, 8, 4, p), p != 4);
+    for connectivity in CONNECTIVITIES {
+        // rows of three: numbers a little apart, then opposite edges and corners
+        let apart = [(2, 3), (0, 2), (3, 5), (2, 6), (0, 5)];
+        let opposite = [(0, 6), (0, 7), (1, 6), (0, 8)];
+        for (p, q) in apart.into_iter().chain(opposite) {
+            assert!(!touching(3, connectivity, p, q));
+        }
+        let beside = [1, 1, 9, 9, 1, 1];
+        assert_eq!(cleaned(LIGHT, &beside, 3, 2, connectivity, 2), [1; 6]);
+        let next_but_one = [1, 1, 9, 1, 1, 1, 9, 1, 1];
+        assert_eq!(cleaned(LIGHT, &next_but_one, 3, 3, connectivity, 2), [1; 9]);
     }
 }
 
@@ -56,22 +53,6 @@ fn one_grey_in_two_places_is_two_nodes() {
     assert_eq!(columns.parents, [0, 0, 0]);
     assert_eq!(columns.areas, [3, 1, 1]);
     assert_eq!(columns.anchors, [1, 0, 2]);
-}
-
-#[test]
-fn neighbours_are_the_touching_pixels() {
-    for (width, height) in [(1, 1), (1, 4), (4, 1), (3, 3), (5, 4)] {
-        for connectivity in [4, 8] {
-            let grid = Grid::new(width, height, connectivity);
-            for p in 0..grid.pixels() {
-                let near: Vec<usize> = grid.neighbours(p).collect();
-                let touched: Vec<usize> = (0..grid.pixels())
-                    .filter(|&q| touching(grid.width, connectivity, p, q))
-                    .collect();
-                assert_eq!(near, touched);
-            }
-        }
-    }
 }
 
 #[test]
