@@ -5,7 +5,8 @@
  * (crates/livukoe/src/lib.rt).
  *
  * A plate is width x height greys, one byte each, row by row from the top left. Width and height are 1 to 32768, their
- * product, the pixels, at most 16777216. Connectivity is 4 (left, right, above, below) or 8 (those and the corners).
+ * product, the pixels, at most 16777216. Connectivity says which pixels touch a pixel: 4 (left, right, above, below), 6
+ * (those, the upper left and the lower right) or 8 (those four and all corners).
  *
  * Every buffer is a pointer and the number of its elements. The caller answers for this, and for nothing else: each
  * pointer is not null (also where the number is 0), aligned for its type, and valid for that many elements; no buffer
@@ -66,7 +67,7 @@ enum livukoe_side {
 
 /* Refusals. Each function names those that it gives, in the order in which it looks. */
 enum livukoe_refusal {
-    LIVUKOE_CONNECTIVITY = 1,   /* the connectivity is neither 4 nor 8 */
+    LIVUKOE_CONNECTIVITY = 1,   /* the connectivity is not 4, 6 or 8 */
     LIVUKOE_GRID = 2,           /* width, height or pixels are beyond the grid (0 included) */
     LIVUKOE_PLATE_LENGTH = 3,   /* image_length is not width x height */
     LIVUKOE_LIMIT = 4,          /* the limit is 0 or above the pixels */
@@ -90,7 +91,7 @@ static inline const char *livukoe_refusal_text(uint32_t refusal)
 {
     switch (refusal) {
     case 0: return "not refused";
-    case LIVUKOE_CONNECTIVITY: return "the connectivity is neither 4 nor 8";
+    case LIVUKOE_CONNECTIVITY: return "the connectivity is not 4, 6 or 8";
     case LIVUKOE_GRID: return "the width or the height is not from 1 to 32768, or there are more than 16777216 pixels";
     case LIVUKOE_PLATE_LENGTH: return "the number of greys is not the width times the height";
     case LIVUKOE_LIMIT: return "the limit is 0 or above the number of pixels";

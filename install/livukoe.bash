@@ -23,7 +23,7 @@ _livukoe()
     elif [[ $before == --side ]]; then
         COMPREPLY=($(compgen -W "light dark" -- "$word"))
     elif [[ $before == --connectivity ]]; then
-        COMPREPLY=($(compgen -W "4 8" -- "$word"))
+        COMPREPLY=($(compgen -W "4 6 8" -- "$word"))
     elif [[ $before == --limit ]]; then
         COMPREPLY=()
     elif [[ $word == -* ]]; then

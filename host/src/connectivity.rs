@@ -1,4 +1,4 @@
-//! The two kinds of connectivity.
+//! The three kinds of connectivity.
 
 use std::fmt;
 use std::str::FromStr;
@@ -12,6 +12,7 @@ use crate::refusal::Refusal;
 ///
 /// assert_eq!("8".parse(), Ok(Connectivity::Eight));
 /// assert_eq!(Connectivity::try_from(4), Ok(Connectivity::Four));
+/// assert_eq!(Connectivity::try_from(6), Ok(Connectivity::Six));
 /// assert_eq!(Connectivity::try_from(5), Err(Refusal::Connectivity));
 /// ```
 #[derive(Clone, Copy, Debug, Default, PartialEq, Eq, Hash)]
@@ -20,15 +21,17 @@ pub enum Connectivity {
     /// Those to its left and right, above and below it.
     #[default]
     Four,
-    /// Those, and the pixels at its corners.
+    /// Those four, the upper left and the lower right.
+    Six,
+    /// Those four, and all at its corners.
     Eight,
 }
 
 impl Connectivity {
     /// Every connectivity, by number of neighbours rising.
-    pub const ALL: [Connectivity; 2] = [Connectivity::Four, Connectivity::Eight];
+    pub const ALL: [Connectivity; 3] = [Connectivity::Four, Connectivity::Six, Connectivity::Eight];
 
-    /// The connectivity with this number of neighbours, 4 or 8.
+    /// The connectivity with this number of neighbours, 4, 6 or 8.
     pub fn from_number(number: u32) -> Option<Connectivity> {
         Connectivity::ALL
             .into_iter()
@@ -39,6 +42,7 @@ impl Connectivity {
     pub fn number(self) -> u32 {
         match self {
             Connectivity::Four => 4,
+            Connectivity::Six => 6,
             Connectivity::Eight => 8,
         }
     }

@@ -76,7 +76,7 @@ impl Fields<'_> {
         let height = self.within(1, tallest, || "height".into())?;
         let number = self.next(
             |number| Connectivity::from_number(number).is_some(),
-            || ("connectivity".into(), "4 or 8".into()),
+            || ("connectivity".into(), "4, 6 or 8".into()),
         )?;
         let nodes = self.within(1, width * height, || "node count".into())?;
         Ok(Head {

@@ -37,7 +37,7 @@ pub enum Refusal {
 
 /// Each refusal with what it means.
 const MEANINGS: [(Refusal, &str); 17] = [
-    (Refusal::Connectivity, "the connectivity is neither 4 nor 8"),
+    (Refusal::Connectivity, "the connectivity is not 4, 6 or 8"),
     (
         Refusal::Grid,
         "the width or the height is not from 1 to 32768, or there are more than 16777216 pixels",

@@ -7,8 +7,6 @@ use common::Chance;
 use livukoe::pictures::{self, picture};
 use livukoe::{Connectivity, Plate, Side};
 
-const BOTH: [Connectivity; 2] = [Connectivity::Four, Connectivity::Eight];
-
 fn total(plate: &Plate) -> u64 {
     plate.greys().iter().map(|&grey| u64::from(grey)).sum()
 }
@@ -90,13 +88,35 @@ fn check_nodes(plate: &Plate, connectivity: Connectivity) {
 #[test]
 fn every_kind_of_picture() {
     for kind in pictures::KINDS {
-        for connectivity in BOTH {
+        for connectivity in Connectivity::ALL {
             let plate = picture(kind, 700, 500);
             for limit in [1, 2, 64, 65_536, 350_000] {
                 check_cleaning(&plate, connectivity, limit);
             }
             check_record(&plate, connectivity, 64);
             check_nodes(&plate, connectivity);
+        }
+    }
+}
+
+/// The plate after half a turn.
+fn turned(plate: &Plate) -> Plate {
+    let greys = plate.greys().iter().rev().copied().collect();
+    Plate::new(plate.width(), plate.height(), greys)
+}
+
+/// With more neighbours a cleaned plate is nowhere darker; a turned plate is cleaned as the plate is.
+#[test]
+fn the_kinds_compared() {
+    for kind in pictures::KINDS {
+        let plate = picture(kind, 700, 500);
+        let clean = Connectivity::ALL.map(|connectivity| without_light(&plate, connectivity, 64));
+        for pair in clean.windows(2) {
+            assert_nowhere_lighter(&pair[0], &pair[1]);
+        }
+        for (connectivity, clean) in Connectivity::ALL.into_iter().zip(clean) {
+            let after = without_light(&turned(&plate), connectivity, 64);
+            assert_eq!(turned(&after), clean, "{kind}, {connectivity}");
         }
     }
 }
@@ -112,6 +132,7 @@ fn the_largest_plates() {
         check_cleaning(&plate, Connectivity::Four, 65_536);
         check_record(&plate, Connectivity::Eight, 100);
         check_nodes(&plate, Connectivity::Four);
+        check_nodes(&plate, Connectivity::Six);
     }
 }
 
@@ -119,8 +140,10 @@ fn the_largest_plates() {
 fn long_and_thin() {
     for (width, height) in [(32_768, 1), (1, 32_768), (32_768, 2), (3, 32_768)] {
         let plate = picture("noise", width, height);
-        check_cleaning(&plate, Connectivity::Eight, 5);
-        check_record(&plate, Connectivity::Four, 5);
+        for connectivity in Connectivity::ALL {
+            check_cleaning(&plate, connectivity, 5);
+            check_record(&plate, connectivity, 5);
+        }
     }
 }
 
@@ -138,7 +161,7 @@ fn patches_about_65536() {
     for area in [65_535, 65_536, 65_537, 131_072 - 65_536 + 1] {
         let plate = patch(area);
         for limit in 65_534..=65_540u32 {
-            for connectivity in BOTH {
+            for connectivity in Connectivity::ALL {
                 let clean = without_light(&plate, connectivity, limit);
                 let stays = limit as usize <= area;
                 assert_eq!(
@@ -183,7 +206,7 @@ fn strewn_patches() {
         }
     }
     let plate = Plate::new(width as u32, height as u32, greys);
-    for connectivity in BOTH {
+    for connectivity in Connectivity::ALL {
         let clean = without_light(&plate, connectivity, 25);
         assert!(clean.greys() == wanted);
     }

@@ -212,15 +212,15 @@ fn completions() {
         ["--connectivity", "--force", "--limit", "--side"]
     );
     for (option, values) in [
-        ("--connectivity", ["4", "8"]),
-        ("--side", ["dark", "light"]),
+        ("--connectivity", &["4", "6", "8"][..]),
+        ("--side", &["dark", "light"]),
     ] {
         assert_eq!(offered(&["livukoe", "clean", option, ""]), values);
         assert_eq!(offered(&["livukoe", "clean", option, "="]), values);
         for value in values {
             let begun = &value[..1];
-            assert_eq!(offered(&["livukoe", "clean", option, begun]), [value]);
-            assert_eq!(offered(&["livukoe", "clean", option, "=", begun]), [value]);
+            assert_eq!(offered(&["livukoe", "clean", option, begun]), [*value]);
+            assert_eq!(offered(&["livukoe", "clean", option, "=", begun]), [*value]);
         }
     }
 }

@@ -112,6 +112,28 @@ fn the_side_comes_first() {
     }
 }
 
+/// 4, 6 and 8 are connectivities, and no other number.
+#[test]
+fn connectivities() {
+    for connectivity in (0..=1_000).chain([65_540, 65_542, u32::MAX]) {
+        let image = Image {
+            greys: &[10; 12],
+            width: 4,
+            height: 3,
+            connectivity,
+        };
+        let (mut out, mut list, mut work) = ([0; 64], [Node::default(); 12], [0; 96]);
+        let answers = [
+            lent::clean(reference::LIGHT, image, 2, &mut out, &mut work),
+            lent::regional_maxima(image, &mut out, &mut work),
+            lent::node_entries(image, &mut list, &mut work).refusal,
+            lent::write_record(image, &mut out, &mut work).refusal,
+        ];
+        let refusal = u32::from(![4, 6, 8].contains(&connectivity));
+        assert_eq!(answers, [refusal; 4], "{connectivity}");
+    }
+}
+
 /// The light side of a plate and the dark side of its negative are negatives.
 #[test]
 fn negatives() {

@@ -3,7 +3,7 @@
 mod common;
 
 use common::{Chance, Plate, Seen};
-use livukoe::lent;
+use livukoe::{lent, Connectivity};
 
 const CASES: u64 = 60_000;
 const EXTENT: usize = 5;
@@ -85,6 +85,20 @@ fn reading() {
         seen.note(compare_reading(&mut chance, &record, pixels));
     }
     seen.assert_all(&[0, 5, 6, 20, 21, 22, 23, 24]);
+}
+
+/// The third field is a connectivity, 4, 6 or 8.
+#[test]
+fn third_fields() {
+    for third in 0..128 {
+        let record = [1, 1, third, 1, 7, 1, 0];
+        let answer = lent::read_record(&record, &mut [0], &mut [0; 8]);
+        let wanted = match third {
+            4 | 6 | 8 => (0, u32::from(third)),
+            _ => (22, 0),
+        };
+        assert_eq!((answer.refusal, answer.connectivity), wanted);
+    }
 }
 
 #[test]
@@ -228,7 +242,7 @@ fn invented_records() {
         let mut record = vec![
             chance.pick(&[1, 2]),
             chance.pick(&[1, 2]),
-            chance.pick(&[4, 8]),
+            chance.pick(&Connectivity::ALL).number() as u8,
         ];
         for _ in 0..chance.below(16) {
             record.push(chance.pick(&[0, 0, 1, 1, 1, 2, 2, 3, 4, 127, 128, 255]));

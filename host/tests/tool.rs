@@ -54,6 +54,44 @@ fn sides() {
     }
 }
 
+/// Two light pixels of 50 touch on the falling diagonal, with 6 and 8; two of 90 on the rising one, with 8 alone. By each
+/// kind: what is left of them at the limit 2, and the size list.
+const KINDS: [(u8, u8, u8, &str); 3] = [
+    (4, 10, 10, "size 4 3 4 5\n1 4 240\nrest 10 96\n"),
+    (6, 50, 10, "size 4 3 6 4\n1 2 160\n2 1 80\nrest 10 96\n"),
+    (8, 50, 90, "size 4 3 8 3\n2 1 80\n4 1 160\nrest 10 96\n"),
+];
+
+/// The plate file with these two pairs.
+fn pairs(falling: u8, rising: u8) -> Vec<u8> {
+    small_file([
+        10, 10, 10, rising, falling, 10, rising, 10, 10, falling, 10, 10,
+    ])
+}
+
+#[test]
+fn three_connectivities() {
+    let plate = pairs(50, 90);
+    for (connectivity, falling, rising, sizes) in KINDS {
+        let clean = pairs(falling, rising);
+        let answer = |command: &str, input: &[u8]| {
+            let output = run_line(command, input);
+            assert_ok(&output);
+            output.stdout
+        };
+        let by_kind = |command: &str, files: &str| {
+            let line = format!("{command} --connectivity {connectivity} {files}");
+            answer(&line, &plate)
+        };
+        assert_eq!(by_kind("clean --side light --limit 2", "- -"), clean);
+        assert_eq!(text(&by_kind("sizelist", "-")), sizes);
+        let record = by_kind("record", "- -");
+        assert_eq!(record[2], connectivity);
+        assert_eq!(answer("plate - -", &record), plate);
+        assert_eq!(answer("cut --limit 2 - -", &record), clean);
+    }
+}
+
 #[test]
 fn texts() {
     let nodes = run_on(&["nodes", "-"], SMALL);
@@ -166,7 +204,8 @@ fn other_formats() {
 
 #[test]
 fn help_and_version() {
-    let clean = "  livukoe clean --side light|dark --limit N [--connectivity 4|8] IN.pgm OUT.pgm\n";
+    let clean =
+        "  livukoe clean --side light|dark --limit N [--connectivity 4|6|8] IN.pgm OUT.pgm\n";
     for words in [&["--help"][..], &["help"], &["-h"], &["clean", "--help"]] {
         let help = run(words, &[]);
         assert_ok(&help);
@@ -389,10 +428,10 @@ fn refusals_of_records_with_figures() {
             &[132, 0],
             "21: byte 0: the width is not in its shortest form, or is above 4294967295",
         ),
-        (&[4, 3, 6], "22: byte 2: the connectivity is 6; 4 or 8"),
+        (&[4, 3, 5], "22: byte 2: the connectivity is 5; 4, 6 or 8"),
         (
             SMALL,
-            "22: byte 2: the connectivity is 10; 4 or 8 (the input is a raw PGM (P5), not a record)",
+            "22: byte 2: the connectivity is 10; 4, 6 or 8 (the input is a raw PGM (P5), not a record)",
         ),
         (&longer, "23: 1 byte left over after the last field"),
         (
@@ -405,7 +444,7 @@ fn refusals_of_records_with_figures() {
 }
 
 /// Command lines, and what is wrong with them.
-const SLIPS: [(&str, &str); 35] = [
+const SLIPS: [(&str, &str); 36] = [
     ("wash", "there is no command wash"),
     ("clean", "clean lacks --side light or --side dark"),
     ("clean a b", "clean lacks --side light or --side dark"),
@@ -446,8 +485,12 @@ const SLIPS: [(&str, &str); 35] = [
     ("clean --limit=2x a b", "the limit 2x is not a whole number"),
     ("clean --limit= a b", "the limit  is not a whole number"),
     (
-        "clean --limit 2 --connectivity 6 a b",
-        "the connectivity 6 is neither 4 nor 8",
+        "clean --limit 2 --connectivity 5 a b",
+        "the connectivity 5 is not 4, 6 or 8",
+    ),
+    (
+        "maxima --connectivity=7 a b",
+        "the connectivity 7 is not 4, 6 or 8",
     ),
     (
         "clean --limit 2 --colour a b",

@@ -28,13 +28,14 @@ fn plates_that_are_none() {
         (Plate::new(2, 2, vec![0; 3]), Refusal::PlateLength),
         (Plate::new(2, 2, vec![0; 5]), Refusal::PlateLength),
     ] {
-        let connectivity = Connectivity::Eight;
-        for side in Side::ALL {
-            assert_eq!(plate.clean(side, connectivity, 1), Err(refusal));
+        for connectivity in Connectivity::ALL {
+            for side in Side::ALL {
+                assert_eq!(plate.clean(side, connectivity, 1), Err(refusal));
+            }
+            assert_eq!(plate.regional_maxima(connectivity), Err(refusal));
+            assert_eq!(plate.nodes(connectivity), Err(refusal));
+            assert_eq!(plate.record(connectivity), Err(refusal));
         }
-        assert_eq!(plate.regional_maxima(connectivity), Err(refusal));
-        assert_eq!(plate.nodes(connectivity), Err(refusal));
-        assert_eq!(plate.record(connectivity), Err(refusal));
     }
 }
 
@@ -73,6 +74,29 @@ fn records_that_are_none() {
         Record::from_bytes(vec![]).plate(),
         Err(Refusal::FieldUnended)
     );
+}
+
+/// The record of the small plate by each kind: pixel 11 is the lower right of pixel 6, which it touches with 6 and 8.
+#[test]
+fn records_of_each_kind() {
+    let apart = ([1, 20, 2, 1, 20, 1, 3, 80, 1], "1 2 100\n2 1 40\n");
+    let touching = ([1, 20, 3, 1, 20, 1, 2, 60, 1], "1 2 80\n3 1 60\n");
+    for (number, (nodes, list)) in [(4, apart), (6, touching), (8, touching)] {
+        let connectivity = Connectivity::try_from(u32::from(number)).expect("a connectivity");
+        let record = small().record(connectivity).expect("a record");
+        let (head, own) = (
+            [4, 3, number, 4, 10, 12],
+            [0, 0, 0, 0, 0, 2, 1, 0, 0, 0, 0, 3],
+        );
+        assert_eq!(record.bytes(), [&head[..], &nodes, &own].concat());
+        assert_eq!(record.plate(), Ok(small()));
+        for limit in 1..=12 {
+            let clean = small().clean(Side::Light, connectivity, limit);
+            assert_eq!(record.cut(limit), clean);
+        }
+        let sizes = record.sizes().expect("a size list").to_string();
+        assert_eq!(sizes, format!("size 4 3 {number} 4\n{list}rest 10 96\n"));
+    }
 }
 
 /// One call gives what the operations give one after another, refusals included.
@@ -153,14 +177,15 @@ fn sides_by_number_and_name() {
 
 #[test]
 fn connectivities_and_refusals_by_number() {
-    for connectivity in Connectivity::ALL {
-        assert_eq!(connectivity.number().try_into(), Ok(connectivity));
+    for (connectivity, number) in Connectivity::ALL.into_iter().zip([4, 6, 8]) {
+        assert_eq!(connectivity.number(), number);
+        assert_eq!(number.try_into(), Ok(connectivity));
         assert_eq!(connectivity.to_string().parse(), Ok(connectivity));
     }
     for number in [0, 1, 5, 7, 9, u32::MAX] {
         assert_eq!(Connectivity::try_from(number), Err(Refusal::Connectivity));
     }
-    for text in ["", "4 ", "+4", "04", "four", "12"] {
+    for text in ["", "4 ", "+4", "04", "06", "four", "12"] {
         assert_eq!(text.parse::<Connectivity>(), Err(Refusal::Connectivity));
     }
     for refusal in (0..100).filter_map(|number| Refusal::try_from(number).ok()) {
@@ -227,17 +252,20 @@ fn too_many_greys() {
 
 #[test]
 fn heads_of_records() {
-    let record = small().record(Connectivity::Eight).expect("a record");
-    let head = record.head().expect("its head");
-    assert_eq!((head.width, head.height, head.nodes), (4, 3, 4));
-    assert_eq!(head.connectivity, Connectivity::Eight);
+    for connectivity in Connectivity::ALL {
+        let record = small().record(connectivity).expect("a record");
+        let head = record.head().expect("its head");
+        assert_eq!((head.width, head.height, head.nodes), (4, 3, 4));
+        assert_eq!(head.connectivity, connectivity);
+    }
     for (bytes, refusal) in [
         (&[][..], Refusal::FieldUnended),
         (&[4, 3, 4], Refusal::FieldUnended),
         (&[132, 0], Refusal::FieldForm),
         (&[0], Refusal::FieldRange),
         (&[128, 128, 2, 129, 4], Refusal::FieldRange), // 32768 x 513
-        (&[4, 3, 6], Refusal::FieldRange),
+        (&[4, 3, 5], Refusal::FieldRange),
+        (&[4, 3, 7], Refusal::FieldRange),
         (&[4, 3, 4, 13], Refusal::FieldRange),
     ] {
         let record = Record::from_bytes(bytes.to_vec());
@@ -258,7 +286,7 @@ fn faults_of_records() {
             &[4, 132, 0],
             "byte 1: the height is not in its shortest form, or is above 4294967295",
         ),
-        (&[4, 3, 6], "byte 2: the connectivity is 6; 4 or 8"),
+        (&[4, 3, 5], "byte 2: the connectivity is 5; 4, 6 or 8"),
         (
             &[2, 1, 4, 2, 250, 1, 2, 1, 6],
             "byte 8: the rise of node 1 is 6; 1 to 5",
@@ -307,7 +335,7 @@ fn faults_are_those_of_the_proved_reader() {
 /// The record of a small plate by chance.
 fn record_by_chance(chance: &mut Chance) -> Vec<u8> {
     let plate = chance.plate(6);
-    let connectivity = plate.connectivity.try_into().expect("4 or 8");
+    let connectivity = plate.connectivity.try_into().expect("a connectivity");
     let plate = Plate::new(plate.width, plate.height, plate.greys);
     plate.record(connectivity).expect("a record").into_bytes()
 }

@@ -67,7 +67,7 @@ fn main() {
     for width in widths.filter(|width| (width * width) as usize <= arguments.pixels) {
         for kind in pictures::KINDS {
             let plate = picture(kind, width, width);
-            for connectivity in [Connectivity::Four, Connectivity::Eight] {
+            for connectivity in Connectivity::ALL {
                 timings.extend(measure::all(kind, &plate, connectivity));
             }
             if plate.greys().len() <= arguments.peer_pixels {

@@ -3,7 +3,7 @@
 use livukoe::{Connectivity, Plate};
 
 use crate::clock;
-use crate::operations::{Bench, Worker, CLEAN_LIGHT, OPERATIONS, WORKERS};
+use crate::operations::{Bench, Worker, CLEANINGS, OPERATIONS, WORKERS};
 
 /// The best times of an operation on a picture, by worker.
 pub struct Timing {
@@ -14,9 +14,9 @@ pub struct Timing {
     pub seconds: [f64; 3],
 }
 
-/// Operations that go by the connectivity differently are measured for both.
+/// Cleaning is measured for every connectivity, the other operations for 4.
 fn measured(operation: &str, connectivity: Connectivity) -> bool {
-    connectivity == Connectivity::Four || operation == CLEAN_LIGHT
+    connectivity == Connectivity::Four || CLEANINGS.contains(&operation)
 }
 
 /// More runs where they are short.

@@ -12,6 +12,9 @@ pub const LIMIT: u32 = 64;
 pub const CLEAN_LIGHT: &str = "clean light";
 const CLEAN_DARK: &str = "clean dark";
 
+/// Cleaning on either side.
+pub const CLEANINGS: [&str; 2] = [CLEAN_LIGHT, CLEAN_DARK];
+
 /// The operations, in the order of the tables.
 pub const OPERATIONS: [&str; 10] = [
     CLEAN_LIGHT,

@@ -30,7 +30,7 @@ pub fn text(timings: &[Timing], peers: &[PeerTiming], memory: &[Memory]) -> Stri
     let _ = write!(text, "\n## Machine\n\n{}", machine()); // a string takes every write
     let _ = write!(text, "\n## Against peers\n\n{}", peer_table(timings, peers));
     let _ = write!(text, "\n## Memory alone\n\n{}", memory_table(memory));
-    for connectivity in [Connectivity::Four, Connectivity::Eight] {
+    for connectivity in Connectivity::ALL {
         for operation in OPERATIONS {
             let of_operation = |timing: &&Timing| {
                 timing.operation == operation && timing.connectivity == connectivity

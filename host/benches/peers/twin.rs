@@ -230,22 +230,23 @@ impl<const CHECKED: bool> Flood<'_, CHECKED> {
         self.look(at, Pixel { x, y }, h)
     }
 
-    /// Looks at the neighbours of `at` until the flood rises.
-    fn visit<const EIGHT: bool>(&mut self, at: Pixel, h: usize) -> usize {
+    /// Looks at the neighbours of `at` until the flood rises. With 6 they are on the falling diagonal too, with 8 on both.
+    fn visit<const CONNECTIVITY: u32>(&mut self, at: Pixel, h: usize) -> usize {
+        let (falling, rising) = (CONNECTIVITY != 4, CONNECTIVITY == 8);
         let mut level = self.upper(at, h);
-        if EIGHT && level == h {
+        if falling && level == h {
             level = self.corner(at, false, false, h);
         }
-        if EIGHT && level == h {
+        if rising && level == h {
             level = self.corner(at, true, false, h);
         }
         if level == h {
             level = self.lower(at, h);
         }
-        if EIGHT && level == h {
+        if rising && level == h {
             level = self.corner(at, false, true, h);
         }
-        if EIGHT && level == h {
+        if falling && level == h {
             level = self.corner(at, true, true, h);
         }
         if level == h {
@@ -274,7 +275,7 @@ impl<const CHECKED: bool> Flood<'_, CHECKED> {
         u
     }
 
-    fn run<const EIGHT: bool>(&mut self, mut h: usize) {
+    fn run<const CONNECTIVITY: u32>(&mut self, mut h: usize) {
         loop {
             let top = self.levels.top[h];
             let next = if top == self.levels.start[h] {
@@ -286,7 +287,7 @@ impl<const CHECKED: bool> Flood<'_, CHECKED> {
                     x: entry % 65536,
                     y: entry / 65536,
                 };
-                self.visit::<EIGHT>(at, h) + 1
+                self.visit::<CONNECTIVITY>(at, h) + 1
             };
             if next == 0 {
                 return;
@@ -318,10 +319,10 @@ impl<const CHECKED: bool> Flood<'_, CHECKED> {
         let h = self.columns.grey[0] as usize;
         self.columns.own[0] = self.name(h, 0);
         self.place(h, Pixel { x: 0, y: 0 });
-        if connectivity == 4 {
-            self.run::<false>(h);
-        } else {
-            self.run::<true>(h);
+        match connectivity {
+            4 => self.run::<4>(h),
+            6 => self.run::<6>(h),
+            _ => self.run::<8>(h),
         }
     }
 }

@@ -63,6 +63,7 @@ static void check_refusals_of_cleaning(void)
         const int known = s < 2;
 #define REFUSED(refusal, ...) EXPECT(livukoe_clean(sides[s], SMALL, __VA_ARGS__) == (known ? refusal : LIVUKOE_SIDE))
         REFUSED(LIVUKOE_CONNECTIVITY, PIXELS, WIDTH, HEIGHT, 5, 2, out, PIXELS, work, WORK);
+        REFUSED(LIVUKOE_CONNECTIVITY, PIXELS, WIDTH, HEIGHT, 7, 2, out, PIXELS, work, WORK);
         REFUSED(LIVUKOE_GRID, PIXELS, 0, HEIGHT, 4, 2, out, PIXELS, work, WORK);
         REFUSED(LIVUKOE_PLATE_LENGTH, PIXELS - 1, WIDTH, HEIGHT, 4, 2, out, PIXELS, work, WORK);
         REFUSED(LIVUKOE_LIMIT, PIXELS, WIDTH, HEIGHT, 4, 13, out, PIXELS, work, WORK);
@@ -73,6 +74,27 @@ static void check_refusals_of_cleaning(void)
 #undef REFUSED
     }
     EXPECT(all(out, 77, PIXELS) && all(work, 77, WORK * sizeof *work));
+    free(out);
+    free(work);
+}
+
+/* Two light pixels touch on the falling diagonal, with 6 and 8; two others on the rising one, with 8 alone. */
+static void check_connectivities(void)
+{
+    static const uint8_t image[PIXELS] = {10, 10, 10, 90, 50, 10, 90, 10, 10, 50, 10, 10};
+    static const uint32_t known[3] = {4, 6, 8};
+    static const uint8_t wanted[3][PIXELS] = {
+        {10, 10, 10, 10, 10, 10, 10, 10, 10, 10, 10, 10},
+        {10, 10, 10, 10, 50, 10, 10, 10, 10, 50, 10, 10},
+        {10, 10, 10, 90, 50, 10, 90, 10, 10, 50, 10, 10},
+    };
+    uint8_t *out = filled(PIXELS);
+    uint32_t *work = filled(WORK * sizeof *work);
+    for (int c = 0; c < 3; c++) {
+        EXPECT(
+            livukoe_clean(LIVUKOE_SIDE_LIGHT, image, PIXELS, WIDTH, HEIGHT, known[c], 2, out, PIXELS, work, WORK) == 0);
+        EXPECT(memcmp(out, wanted[c], PIXELS) == 0);
+    }
     free(out);
     free(work);
 }
@@ -225,9 +247,9 @@ static void check_noise(uint32_t connectivity)
     uint8_t *bytes = filled(LIVUKOE_RECORD_BYTES(MANY));
     struct livukoe_record_length written = livukoe_write_record(
         image, MANY, EXTENT, EXTENT, connectivity, bytes, LIVUKOE_RECORD_BYTES(MANY), work, LIVUKOE_WORK_NUMBERS(MANY));
-    EXPECT(written.refusal == 0);
-    EXPECT(livukoe_read_record(bytes, written.length, out, MANY, work, 8 * MANY).refusal == 0);
-    EXPECT(memcmp(out, image, MANY) == 0);
+    EXPECT(written.refusal == 0 && bytes[2] == connectivity);
+    struct livukoe_record_head head = livukoe_read_record(bytes, written.length, out, MANY, work, 8 * MANY);
+    EXPECT(head.refusal == 0 && head.connectivity == connectivity && memcmp(out, image, MANY) == 0);
     EXPECT(livukoe_read_record(bytes, written.length - 1, out, MANY, work, 8 * MANY).refusal != 0);
     free(bytes);
     free(image);
@@ -240,11 +262,13 @@ int main(void)
 {
     check_cleaning();
     check_refusals_of_cleaning();
+    check_connectivities();
     check_maxima_and_nodes();
     check_file();
     check_record();
     check_joint();
     check_noise(4);
+    check_noise(6);
     check_noise(8);
     return failures != 0;
 }

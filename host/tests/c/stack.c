@@ -15,16 +15,17 @@ enum { STACK = 65536, PAGE = 4096, BLIND = 256 };
 /* The plates have at most this many pixels. */
 enum { MANY = 65536, RECORD = LIVUKOE_RECORD_BYTES(MANY), COMMENTS = 20000, FILE_BYTES = 3 * 3 * COMMENTS + 64 };
 
-enum { PLATES = 12, CONNECTIVITIES = 3, LIMITS = 6, FILES = 12 };
-static const uint32_t CONNECTIVITY[CONNECTIVITIES] = {4, 8, 5};
+/* KINDS is the number of connectivities, which are the first of the numbers that are passed as one. */
+enum { PLATES = 12, KINDS = 3, CONNECTIVITIES = 4, LIMITS = 6, FILES = 12 };
+static const uint32_t CONNECTIVITY[CONNECTIVITIES] = {4, 6, 8, 5};
 
 static struct plate {
     uint32_t width, height;
     size_t pixels;
     uint8_t greys[MANY];
-    /* of the connectivities 4 and 8 */
-    uint8_t record[2][RECORD];
-    size_t length[2];
+    /* by connectivity */
+    uint8_t record[KINDS][RECORD];
+    size_t length[KINDS];
 } plates[PLATES];
 
 static struct file {
@@ -68,7 +69,7 @@ static void make_plates(void)
         plate->pixels = (size_t)plate->width * plate->height;
         for (uint32_t p = 0; p < plate->pixels; p++)
             plate->greys[p] = grey_of(kind, p % plate->width, p / plate->width, plate->width);
-        for (int c = 0; c < 2; c++)
+        for (int c = 0; c < KINDS; c++)
             plate->length[c] = livukoe_write_record(
                 plate->greys, plate->pixels, plate->width, plate->height, CONNECTIVITY[c], plate->record[c], RECORD,
                 work, LIVUKOE_WORK_NUMBERS(plate->pixels)).length;
@@ -121,7 +122,7 @@ static int done;
         for (int c = 0; c < CONNECTIVITIES; c++)
 #define EACH_RECORD                                          \
     for (const struct plate *plate = plates; plate < plates + PLATES; plate++) \
-        for (int c = 0; c < 2; c++)
+        for (int c = 0; c < KINDS; c++)
 #define EACH_LIMIT for (int l = 0; l < LIMITS; l++)
 #define IMAGE plate->greys, plate->pixels, plate->width, plate->height, CONNECTIVITY[c]
 #define WORK work, LIVUKOE_WORK_NUMBERS(plate->pixels)

@@ -5,6 +5,7 @@
 use std::collections::BTreeSet;
 
 use livukoe::lent::Image;
+use livukoe::Connectivity;
 
 /// Numbers that look like chance, the same in each run (xorshift).
 pub struct Chance(u64);
@@ -64,7 +65,7 @@ impl Chance {
         Plate {
             width: width as u32,
             height: height as u32,
-            connectivity: self.pick(&[4, 8]),
+            connectivity: self.pick(&Connectivity::ALL).number(),
             greys: plate,
         }
     }
@@ -73,7 +74,7 @@ impl Chance {
     pub fn job(&mut self, extent: usize) -> Plate {
         let mut plate = self.plate(extent);
         if self.one_in(12) {
-            plate.connectivity = self.pick(&[0, 1, 3, 5, 6, 7, 9, 260, u32::MAX]);
+            plate.connectivity = self.pick(&[0, 1, 3, 5, 7, 9, 260, 262, u32::MAX]);
         }
         if self.one_in(12) {
             plate.width = self.pick(&[0, plate.width + 1, 32_768, 32_769, 65_536, u32::MAX]);
@@ -101,7 +102,9 @@ impl Chance {
     pub fn damage(&mut self, bytes: &mut Vec<u8>) {
         for _ in 0..1 + self.below(2) {
             let at = self.below(bytes.len() + 1);
-            let byte = self.pick(&[0, 1, 2, 4, 8, 127, 128, 129, 255, b'#', b' ', b'\n', b'5']);
+            let byte = self.pick(&[
+                0, 1, 2, 4, 6, 8, 127, 128, 129, 255, b'#', b' ', b'\n', b'5',
+            ]);
             match self.below(5) {
                 0 => bytes.truncate(at),
                 1 => bytes.insert(at, byte),

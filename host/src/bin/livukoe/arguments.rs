@@ -70,7 +70,7 @@ const FORMS: [Form; 7] = [
         limit: true,
         connectivity: true,
         output: true,
-        line: "clean --side light|dark --limit N [--connectivity 4|8] IN.pgm OUT.pgm",
+        line: "clean --side light|dark --limit N [--connectivity 4|6|8] IN.pgm OUT.pgm",
         about: "take away light (dark) patches of fewer than N pixels: area opening (closing)",
     },
     Form {
@@ -80,7 +80,7 @@ const FORMS: [Form; 7] = [
         limit: false,
         connectivity: true,
         output: true,
-        line: "maxima [--connectivity 4|8] IN.pgm OUT.pgm",
+        line: "maxima [--connectivity 4|6|8] IN.pgm OUT.pgm",
         about: "255 inside regional maxima, 0 elsewhere",
     },
     Form {
@@ -90,7 +90,7 @@ const FORMS: [Form; 7] = [
         limit: false,
         connectivity: true,
         output: false,
-        line: "nodes  [--connectivity 4|8] IN.pgm",
+        line: "nodes  [--connectivity 4|6|8] IN.pgm",
         about: "a line for each node: number level parent area anchor",
     },
     Form {
@@ -100,7 +100,7 @@ const FORMS: [Form; 7] = [
         limit: false,
         connectivity: true,
         output: true,
-        line: "record [--connectivity 4|8] IN.pgm OUT.rec",
+        line: "record [--connectivity 4|6|8] IN.pgm OUT.rec",
         about: "write the record of a plate",
     },
     Form {
@@ -130,7 +130,7 @@ const FORMS: [Form; 7] = [
         limit: false,
         connectivity: true,
         output: false,
-        line: "sizelist [--connectivity 4|8] IN.pgm",
+        line: "sizelist [--connectivity 4|6|8] IN.pgm",
         about: "how many nodes have each area, and the grey that goes with them",
     },
 ];
@@ -148,7 +148,9 @@ pub fn help() -> String {
         text += &format!("  livukoe {}\n          {}\n", form.line, form.about);
     }
     text += "
-A file named - is standard input or output. The connectivity is 4 (left, right, above, below) unless it is given.
+A file named - is standard input or output.
+The connectivity says which pixels touch a pixel: 4 (left, right, above, below), 6 (those, the upper left and the lower
+right) or 8 (those four and all corners). It is 4 unless it is given.
 An OUT that is write-protected is left as it is, except with --force, which replaces it.
 IN.pgm is a binary PGM (P5) with the greatest grey 255, of up to 32768 x 32768 and 16777216 pixels.
 
@@ -242,12 +244,12 @@ impl Given {
         };
         match name {
             "--side" => {
-                let side = one_of_two("side", &value()?, "light nor dark")?;
+                let side = chosen("side", &value()?, "neither light nor dark")?;
                 once(name, self.side.replace(side).is_none())
             }
             "--limit" => once(name, self.limit.replace(limit(value()?)?).is_none()),
             "--connectivity" => {
-                let connectivity = one_of_two("connectivity", &value()?, "4 nor 8")?;
+                let connectivity = chosen("connectivity", &value()?, "not 4, 6 or 8")?;
                 once(name, self.connectivity.replace(connectivity).is_none())
             }
             _ => Err(format!("there is no option {}", shown(OsStr::new(name)))),
@@ -326,8 +328,8 @@ fn limit(word: OsString) -> Result<Limit, String> {
     Ok(Limit { number, given })
 }
 
-/// The value of an option that has two, or what is wrong with it.
-fn one_of_two<T: FromStr>(name: &str, word: &OsStr, neither: &str) -> Result<T, String> {
+/// The value of an option, one of a few, or what is wrong with it.
+fn chosen<T: FromStr>(name: &str, word: &OsStr, wrong: &str) -> Result<T, String> {
     let known = word.to_str().and_then(|text| text.parse().ok());
-    known.ok_or_else(|| format!("the {name} {} is neither {neither}", shown(word)))
+    known.ok_or_else(|| format!("the {name} {} is {wrong}", shown(word)))
 }
