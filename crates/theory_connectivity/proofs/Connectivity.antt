@@ -18,15 +18,6 @@ kinds k e = elim (either-cases (eqb k 4) (eqb k 6 || eqb k 8) (passes e)) [
   ]
 ]
 
-pub kind-least : (k : ℕ) → connectivityFits k ≡ true → 4 ≤ k
-kind-least k e = elim (kinds k e) [
-  | inl a ↦ omega arith
-  | inr o ↦ elim o [
-    | inl b ↦ omega arith
-    | inr c ↦ omega arith
-  ]
-]
-
 pub kind-most : (k : ℕ) → connectivityFits k ≡ true → k ≤ 8
 kind-most k e = elim (kinds k e) [
   | inl a ↦ omega arith
@@ -36,21 +27,12 @@ kind-most k e = elim (kinds k e) [
   ]
 ]
 
--- a connectivity other than 4, and other than 4 and 6
-pub above-four : (k : ℕ) → connectivityFits k ≡ true → (k ≡ 4 → ⊥) → 6 ≤ k
-above-four k e d = elim (kinds k e) [
-  | inl a ↦ absurd (d a)
+-- what is neither 8 nor 6 is 4
+pub four-kind : (k : ℕ) → connectivityFits k ≡ true → (k ≡ 8 → ⊥) → (k ≡ 6 → ⊥) → k ≡ 4
+four-kind k e not-eight not-six = elim (kinds k e) [
+  | inl a ↦ a
   | inr o ↦ elim o [
-    | inl b ↦ omega arith
-    | inr c ↦ omega arith
-  ]
-]
-
-pub above-six : (k : ℕ) → connectivityFits k ≡ true → (k ≡ 4 → ⊥) → (k ≡ 6 → ⊥) → k ≡ 8
-above-six k e d d′ = elim (kinds k e) [
-  | inl a ↦ absurd (d a)
-  | inr o ↦ elim o [
-    | inl b ↦ absurd (d′ b)
-    | inr c ↦ c
+    | inl b ↦ absurd (not-six b)
+    | inr c ↦ absurd (not-eight c)
   ]
 ]
