@@ -243,11 +243,11 @@ impl<const CHECKED: bool> Flood<'_, CHECKED> {
         if level == h {
             level = self.lower(at, h);
         }
-        if rising && level == h {
-            level = self.corner(at, false, true, h);
-        }
         if falling && level == h {
             level = self.corner(at, true, true, h);
+        }
+        if rising && level == h {
+            level = self.corner(at, false, true, h);
         }
         if level == h {
             level = self.left(at, h);
