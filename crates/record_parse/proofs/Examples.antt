@@ -1,4 +1,5 @@
--- Reading records, computed from the definitions: the 27 bytes of SPECIFICATION 10, each refusal, each connectivity. No node rises above a parent at the greatest grey.
+-- Reading records, computed from the definitions: the 27 bytes of SPECIFICATION 10, each refusal, each connectivity. No node rises above a parent
+-- at the greatest grey.
 use mathlib.Core.Path.{_≡_, refl}
 use mathlib.Core.List.{List, [], _∷_, _++_, map}
 use Prim.Native.Nat.{ℕ}
