@@ -50,7 +50,7 @@ module _ {k w h : ℕ} {f : List ℕ} (plate : Plate k w h f) where
   pub plate-some : 0 < length f
   plate-some = omega (arith, plate .long, plate-sizes .some-pixels)
 
-  -- both grids are connected, so some set always qualifies
+  -- the grid is connected, so some set always qualifies
   pub plate-grid : Grid (length f) (touch k w)
   plate-grid = fits-grid k w h (length f) (plate .sizes) (plate .long)
 
