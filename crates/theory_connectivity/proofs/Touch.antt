@@ -29,7 +29,7 @@ module _ (x y x′ y′ : ℕ) where
   corner-back : T (byEdgeOrCorner x y x′ y′) → T (byEdgeOrCorner x′ y′ x y)
   corner-back t = rw (apart-comm x′ x, apart-comm y′ y) t
 
-  -- whose upper left I am, that is my lower right; and the other way round
+  -- the upper left of a pixel has it for its lower right; and the other way round
   upper-back : T (upperLeft x y x′ y′) → T (lowerRight x′ y′ x y)
   upper-back t =
       both (eqb y (y′ + 1)) (eqb x (x′ + 1)) (turned (y′ + 1) y (both-left (eqb (y′ + 1) y) (eqb (x′ + 1) x) t))
