@@ -5,13 +5,13 @@ use mathlib.Core.Bool.{true}
 use mathlib.Core.List.{List, _++_}
 use Prim.Native.Nat.{ℕ, suc, _+_, _*_, _<_}
 use native.Mathlib.Nat.{mul-le-mul-right, suc-mul}
-use native.Mathlib.Decide.{decLe}
+use native.Mathlib.Decide.{decLe, decLt}
 use native.Mathlib.Omega.{arith}
-use lib.Dec.{ltb, ltb→lt, lt→ltb}
-use lib.ListN.{drop, getD, replicate, set, length-set}
+use lib.Dec.{ltb, ltb→lt, lt→ltb, nltb→le, not-T}
+use lib.ListN.{length, drop, getD, replicate, set, length-set, List·getD-eq-default}
 use lib.Seq.{getD-set-same, getD-set-other, drop-set-lt}
 use Rattle.meaning.specs.Answers.{workAfter}
-use Rattle.meaning.specs.Examples.{small}
+use Rattle.meaning.specs.Plate.{grey}
 use Rattle.meaning.specs.Sets.{pick}
 use Rattle.theory_lists.proofs.Tests.{choice, pick-no, pick-yes}
 use Rattle.work_columns.specs.Columns.{Frame, Room, Stored, col}
@@ -67,3 +67,24 @@ stored {w} {n} r c i v hc hi = record {
   };
   off = λ d b x. col-same d n w (set w (c * n + i) v) (λ p l. getD-set-other w (c * n + i) (d * n + p) v 0 (places n d c p i x l hi));
 }
+
+-- ---- columns that are filled, or that are a plate
+
+-- beyond its pixels a plate is 0, as a column is beyond its end
+pub column-plate : (c n : ℕ) (w f : List ℕ) → length f ≡ n → ((p : ℕ) → p < n → col c n w p ≡ grey f p) → col c n w ≡ grey f
+unfolding col
+column-plate c n w f e agree = fun-ext go
+  where
+    go : (p : ℕ) → col c n w p ≡ grey f p
+    go p = elim (choice (ltb p n)) [
+      | inl t ↦ agree p (ltb→lt p n t)
+      | inr t ↦ pick-no (ltb p n) (getD w (c * n + p) 0) 0 t ∙ sym (List·getD-eq-default f 0 {n = p} (omega (arith, nltb→le p n (not-T (ltb p n) t))))
+    ]
+
+-- one more entry of a column that agrees with g from its front
+pub column-more : {w w′ : List ℕ} {n c i v : ℕ} (g : ℕ → ℕ) → Stored w w′ n c i v → i < n → v ≡ g i
+    → ((j : ℕ) → j < i → col c n w j ≡ g j) → (j : ℕ) → j < i + 1 → col c n w′ j ≡ g j
+column-more {i = i} g s l e done j h = elim (decLt j i) [
+  | yes k ↦ s .put .other j (omega arith) (λ x. omega arith) ∙ done j k
+  | no k ↦ (let x : j ≡ i = omega arith in rw x (s .put .here ∙ e))
+]

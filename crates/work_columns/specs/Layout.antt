@@ -1,16 +1,20 @@
--- What the eight columns of the work space hold, by stage. n: the pixels; k: the connectivity; wd: the width.
+-- What the eight columns of the work space hold, by stage. g: the plate's shape; n: its pixels.
 use mathlib.Core.Path.{_≡_}
 use mathlib.Core.Logic.{_⊎_}
 use mathlib.Core.Bool.{Bool, true}
 use mathlib.Core.List.{List}
 use Prim.Native.Nat.{ℕ, _*_, _≤_, _<_}
-use lib.ListN.{length}
-use Rattle.meaning.specs.Sets.{area, nth, has}
+use Rattle.meaning.specs.Sets.{area, has, table}
 use Rattle.meaning.specs.Paths.{Joined}
 use Rattle.meaning.specs.Plate.{touch, greatestGrey, gridFits, connectivityFits}
 use Rattle.meaning.specs.Opening.{lighter}
-use Rattle.meaning.specs.Nodes.{node, anchors, levelOf, areaOf, own, parent}
+use Rattle.meaning.specs.Nodes.{node}
 use Rattle.work_columns.specs.Columns.{col, Room, Frame}
+use Rattle.work_columns.specs.declared.Shape.{Shape}
+
+-- the pixels of a plate of that shape that touch
+abbrev pub touchIn : Shape → ℕ → ℕ → Bool
+touchIn g = touch (g .connectivity) (g .width)
 
 -- ---- the columns
 
@@ -60,6 +64,10 @@ VALUE = 4
 abbrev pub Greys : ℕ → List ℕ → Type 0
 Greys n w = (p : ℕ) → p < n → col GREY n w p ≤ greatestGrey
 
+-- as a plate
+abbrev pub greysIn : ℕ → List ℕ → List ℕ
+greysIn n w = table n (col GREY n w)
+
 -- ---- after flooding: each pixel has the number of its node, in any order; by node stand parent and area
 
 -- p and q are of one grey, and joined at it: they are of one node's own level
@@ -83,39 +91,19 @@ pub record Flooded (n : ℕ) (near : ℕ → ℕ → Bool) (f own area-of parent
   pub area-is : (p : ℕ) → p < n → area-of (own p) ≡ area n (has (node n near f p))
   pub parent-is : (p : ℕ) → p < n → Up n near f own p (parent-of (own p)) ⊎ ((parent-of (own p) ≡ own p) × ((r : ℕ) → r < n → f p ≤ f r))
 
-abbrev pub FloodedColumns : ℕ → ℕ → ℕ → List ℕ → Type 0
-FloodedColumns k wd n w =
-    Flooded n (touch k wd) (col GREY n w) (col OWN n w) (col FLOODAREA n w) (col FLOODPARENT n w)
+abbrev pub FloodedColumns : Shape → List ℕ → Type 0
+FloodedColumns g w =
+    Flooded (g .pixels) (touchIn g) (col GREY (g .pixels) w) (col OWN (g .pixels) w) (col FLOODAREA (g .pixels) w) (col FLOODPARENT (g .pixels) w)
 
 -- what flooding asks, and what it leaves
-pub record Buildable (k wd ht n : ℕ) (w : List ℕ) : Type 0 where
-  pub room : Room w n
-  pub kind : connectivityFits k ≡ true
-  pub sizes : gridFits wd ht ≡ true
-  pub pixels : n ≡ wd * ht
-  pub greys : Greys n w
+pub record Buildable (g : Shape) (w : List ℕ) : Type 0 where
+  pub room : Room w (g .pixels)
+  pub kind : connectivityFits (g .connectivity) ≡ true
+  pub sizes : gridFits (g .width) (g .height) ≡ true
+  pub product : g .pixels ≡ g .width * g .height
+  pub greys : Greys (g .pixels) w
 
-pub record FloodBuilt (k wd n : ℕ) (w w′ : List ℕ) : Type 0 where
-  pub frame : Frame n w w′
-  pub same : col GREY n w′ ≡ col GREY n w
-  pub flooded : FloodedColumns k wd n w′
-
--- ---- after numbering: the component tree in the specification's numbers; count: the number of nodes
-
-pub record TreeColumns (k wd n : ℕ) (w : List ℕ) (count : ℕ) : Type 0 where
-  pub greys : Greys n w
-  pub nodes : count ≡ length (anchors greatestGrey n (touch k wd) (col GREY n w))
-  pub owns : (p : ℕ) → p < n → col OWN n w p ≡ own n (touch k wd) (col GREY n w) (anchors greatestGrey n (touch k wd) (col GREY n w)) p
-  pub anchor-is : (i : ℕ) → i < count → col ANCHOR n w i ≡ nth (anchors greatestGrey n (touch k wd) (col GREY n w)) i
-  pub level-is : (i : ℕ) → i < count
-      → col LEVEL n w i ≡ levelOf n (touch k wd) (col GREY n w) (anchors greatestGrey n (touch k wd) (col GREY n w)) i
-  pub parent-is : (i : ℕ) → i < count
-      → col PARENT n w i ≡ parent n (touch k wd) (col GREY n w) (anchors greatestGrey n (touch k wd) (col GREY n w)) i
-  pub area-is : (i : ℕ) → i < count
-      → col AREA n w i ≡ areaOf n (touch k wd) (col GREY n w) (anchors greatestGrey n (touch k wd) (col GREY n w)) i
-
--- what building the tree leaves
-pub record Built (k wd n : ℕ) (w w′ : List ℕ) (count : ℕ) : Type 0 where
-  pub frame : Frame n w w′
-  pub same : col GREY n w′ ≡ col GREY n w
-  pub tree : TreeColumns k wd n w′ count
+pub record FloodBuilt (g : Shape) (w w′ : List ℕ) : Type 0 where
+  pub frame : Frame (g .pixels) w w′
+  pub same : col GREY (g .pixels) w′ ≡ col GREY (g .pixels) w
+  pub flooded : FloodedColumns g w′

@@ -5,6 +5,14 @@ ghost use Prim.Native.Nat.{_+_, _*_, _<_};
 ghost use lib.ListN.{drop, replicate};
 ghost use Rattle.work_columns.specs.Columns.{col, Room, Stored};
 
+// The shape of a plate: its pixels, its width and height, its connectivity.
+pub struct Shape {
+    pub pixels: usize,
+    pub width: usize,
+    pub height: usize,
+    pub connectivity: usize,
+}
+
 // ---- the columns, as specs/Layout.antt names them
 
 // By pixel: its grey; its node (while flooding, n plus its grey where it has none yet).

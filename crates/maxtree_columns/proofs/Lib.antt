@@ -1,0 +1,3 @@
+-- Laws of the component tree in the work space.
+pub mod Greys
+pub mod Tree

@@ -1,0 +1,2 @@
+-- The component tree of a plate in the work space.
+pub mod Tree
