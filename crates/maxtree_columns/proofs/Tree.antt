@@ -11,7 +11,7 @@ use Rattle.meaning.specs.Cut.{darkest}
 use Rattle.meaning.specs.Nodes.{areaOf, holds, levelOf, own, parent}
 use Rattle.meaning.specs.Paths.{Grid}
 use Rattle.meaning.specs.Plate.{greatestGrey, grey}
-use Rattle.meaning.specs.Sets.{elem, nth}
+use Rattle.meaning.specs.Sets.{area, elem, nth}
 use Rattle.theory_lists.proofs.Lists.{distinct-area}
 use Rattle.theory_lists.proofs.Sets.{area-le}
 use Rattle.theory_lists.proofs.Sums.{area-pos}
@@ -24,7 +24,7 @@ use Rattle.work_columns.specs.Columns.{Frame, Stored, col}
 use Rattle.work_columns.specs.Layout.{ANCHOR, AREA, GREY, LEVEL, OWN, PARENT, VALUE, greysIn, touchIn}
 use Rattle.work_columns.specs.declared.Shape.{Shape}
 use Rattle.work_columns.proofs.Columns.{frame-room}
-use Rattle.maxtree_columns.specs.Tree.{Built, Tree, TreeStands, nodesIn}
+use Rattle.maxtree_columns.specs.Tree.{Attributed, Tree, TreeStands, nodesIn}
 use Rattle.maxtree_columns.proofs.Greys.{greys-plate}
 
 module _ {g : Shape} {f w : List ℕ} {count : ℕ} (t : Tree g f w count) where
@@ -115,6 +115,16 @@ module _ {g : Shape} {f w : List ℕ} {count : ℕ} (t : Tree g f w count) where
         parent-area tree-grid tree-nodes i h (omega (arith, t .nodes)),
         area-most (parent n (touchIn g) (grey f) xs i),
       )
+
+  -- ---- what is held against the limit is the area, whose column stands
+
+  pub tree-attributed : Attributed g f w count
+  unfolding areaOf
+  tree-attributed = record {
+    tree = t;
+    attribute-is = λ i l.
+        t .area-is i l ∙ ap (λ (m : ℕ). area m (holds n (touchIn g) (grey f) xs i)) (sym (t .pixels) ∙ t .plate .long);
+  }
 
   -- ---- the tree stands as long as its columns do
 

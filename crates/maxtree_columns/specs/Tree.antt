@@ -4,11 +4,12 @@ use mathlib.Core.Path.{_≡_}
 use mathlib.Core.List.{List}
 use Prim.Native.Nat.{ℕ, _<_}
 use lib.ListN.{length}
-use Rattle.meaning.specs.Nodes.{areaOf, levelOf, nodesOf, own, parent}
+use Rattle.meaning.specs.Nodes.{areaOf, holds, levelOf, nodesOf, own, parent}
+use Rattle.meaning.specs.Opening.{attribute}
 use Rattle.meaning.specs.Plate.{Plate, grey}
 use Rattle.meaning.specs.Sets.{nth}
 use Rattle.work_columns.specs.Columns.{Frame, Room, col}
-use Rattle.work_columns.specs.Layout.{ANCHOR, AREA, GREY, LEVEL, OWN, PARENT, greysIn, touchIn}
+use Rattle.work_columns.specs.Layout.{ANCHOR, AREA, ATTRIBUTE, GREY, LEVEL, OWN, PARENT, greysIn, touchIn}
 use Rattle.work_columns.specs.declared.Shape.{Shape}
 
 -- the anchors of the nodes of a plate of that shape
@@ -27,7 +28,13 @@ pub record Tree (g : Shape) (f w : List ℕ) (count : ℕ) : Type 0 where
   pub parent-is : (i : ℕ) → i < count → col PARENT (g .pixels) w i ≡ parent (g .pixels) (touchIn g) (grey f) (nodesIn g f) i
   pub area-is : (i : ℕ) → i < count → col AREA (g .pixels) w i ≡ areaOf (g .pixels) (touchIn g) (grey f) (nodesIn g f) i
 
--- the same of the plate whose greys stand there
+-- the tree with what is held against the limit: the attribute of each node
+pub record Attributed (g : Shape) (f w : List ℕ) (count : ℕ) : Type 0 where
+  pub tree : Tree g f w count
+  pub attribute-is : (i : ℕ) → i < count
+      → col ATTRIBUTE (g .pixels) w i ≡ attribute (g .width) (g .height) (holds (g .pixels) (touchIn g) (grey f) (nodesIn g f) i)
+
+-- the tree of the plate whose greys stand there
 abbrev pub TreeStands : (g : Shape) (w : List ℕ) (count : ℕ) → Type 0
 TreeStands g w count = Tree g (greysIn (g .pixels) w) w count
 

@@ -1,67 +1,80 @@
 // Values by node in the work space, and what an operation writes out of it.
 ghost use mathlib.Core.Path.{_≡_};
-ghost use Prim.Native.Nat.{_≤_, _<_};
+ghost use Prim.Native.Nat.{ℕ, suc, _≤_, _<_};
 ghost use lib.ListN.{length};
-ghost use Rattle.meaning.specs.Sets.{table};
 ghost use Rattle.meaning.specs.Answers.{over};
-ghost use Rattle.work_columns.specs.Columns.{col, Room};
-ghost use Rattle.work_columns.specs.Layout.{PARENT};
-ghost use Rattle.maxtree_values.specs.Values.{Parents, Cut, cutValue, Ones, Marked, Writable, outValue, Delivered, Copyable};
-use work_columns::AREA;
+ghost use Rattle.meaning.specs.Cut.{cut};
+ghost use Rattle.meaning.specs.Maxima.{marks};
+ghost use Rattle.meaning.specs.Sets.{table};
+ghost use Rattle.work_columns.specs.Columns.{col};
+ghost use Rattle.work_columns.specs.Layout.{greysIn};
+ghost use Rattle.maxtree_columns.specs.Tree.{TreeStands};
+ghost use Rattle.plate_greys.specs.Sides.{sideGrey, sidePlate};
+ghost use Rattle.maxtree_values.specs.Values.{Climbable, Climbed, ValuesAre, Ones, Writable, valueAt, valuesIn, Delivered, Copyable};
+use work_columns::ATTRIBUTE;
 use work_columns::LEVEL;
 use work_columns::OWN;
 use work_columns::PARENT;
+use work_columns::Shape;
 use work_columns::VALUE;
 
-// The value of node i: its level where its area is at least the limit, else its parent's value.
-fn cut_value(w: &[u32], n: usize, limit: usize, i: usize) -> usize
-    requires { ⌜ Room (now w) n ⌝ }
-    requires { ⌜ (i < n) × (col PARENT n (now w) i < n) ⌝ }
-    ensures { λ r. ⌜ (r ≡ cutValue limit n (now (w .entry)) i) × (r < 4294967296) ⌝ }
+// The value of node i in the cut at the limit: the level of the first node, from i up to the root, whose attribute is at least the limit. The nodes
+// before `settled` have their values stored, so that no climb from a node at most `settled` passes two. The slice is lent on as a new one: calls that
+// pass their own on are slower (docs/DECISIONS.md).
+fn climb(w: &[u32], n: usize, limit: usize, settled: usize, i: usize) -> usize
+    requires { ⌜ Climbable limit n (now w) (suc i) ⌝ }
+    ensures { λ r. ⌜ Climbed limit n (now (w .entry)) settled i r ⌝ }
 {
-    let area = work_columns::get(w, n, AREA, i);
-    if limit <= area {
+    if i < settled {
+        return work_columns::get(w, n, VALUE, i);
+    }
+    let attribute = work_columns::get(w, n, ATTRIBUTE, i);
+    if limit <= attribute {
         return work_columns::get(w, n, LEVEL, i);
     }
     let parent = work_columns::get(w, n, PARENT, i);
-    work_columns::get(w, n, VALUE, parent)
+    let lent: &[u32] = w;
+    climb(lent, n, limit, settled, parent)
 }
 
-// Gives each node its value in the cut at the limit.
-pub fn cut_values(w: &mut [u32], n: usize, count: usize, limit: usize)
-    requires { ⌜ Parents n (now w) count ⌝ }
-    ensures { λ _. ⌜ Cut limit n count (now (w .entry)) (now (w .exit)) ⌝ }
+// Gives each node its value in the cut of the plate at the limit.
+pub fn cut_values(w: &mut [u32], g: Shape, count: usize, limit: usize)
+    requires { ⌜ TreeStands g (now w) count ⌝ }
+    requires { ⌜ limit ≤ g .pixels ⌝ }
+    ensures { λ _. ⌜ ValuesAre (g .pixels) (cut (g .connectivity) (g .width) (g .height) limit (greysIn (g .pixels) (now (w .entry))))
+        (now (w .entry)) (now (w .exit)) ⌝ }
 {
     let mut i: usize = 0;
     while i < count {
-        let v = cut_value(w, n, limit, i);
-        work_columns::put(w, n, VALUE, i, v);
+        let v = climb(w, g.pixels, limit, i, i);
+        work_columns::put(w, g.pixels, VALUE, i, v);
         i += 1;
     }
 }
 
 // Gives each node the value 1.
-fn set_ones(w: &mut [u32], n: usize, count: usize)
-    requires { ⌜ Parents n (now w) count ⌝ }
-    ensures { λ _. ⌜ Ones n count (now (w .entry)) (now (w .exit)) ⌝ }
+fn set_ones(w: &mut [u32], g: Shape, count: usize)
+    requires { ⌜ TreeStands g (now w) count ⌝ }
+    ensures { λ _. ⌜ Ones (g .pixels) count (now (w .entry)) (now (w .exit)) ⌝ }
 {
     let mut i: usize = 0;
     while i < count {
-        work_columns::put(w, n, VALUE, i, 1);
+        work_columns::put(w, g.pixels, VALUE, i, 1);
         i += 1;
     }
 }
 
-// Gives each node that is a parent the value 0, and the others 1.
-pub fn mark_leaves(w: &mut [u32], n: usize, count: usize)
-    requires { ⌜ Parents n (now w) count ⌝ }
-    ensures { λ _. ⌜ Marked n count (now (w .entry)) (now (w .exit)) ⌝ }
+// Gives each node that is a parent the value 0, and the others 1: the marks of the plate's regional maxima.
+pub fn mark_leaves(w: &mut [u32], g: Shape, count: usize)
+    requires { ⌜ TreeStands g (now w) count ⌝ }
+    ensures { λ _. ⌜ ValuesAre (g .pixels) (marks (g .connectivity) (g .width) (greysIn (g .pixels) (now (w .entry))))
+        (now (w .entry)) (now (w .exit)) ⌝ }
 {
-    set_ones(w, n, count);
+    set_ones(w, g, count);
     let mut i: usize = 1;
     while i < count {
-        let parent = work_columns::get(w, n, PARENT, i);
-        work_columns::put(w, n, VALUE, parent, 0);
+        let parent = work_columns::get(w, g.pixels, PARENT, i);
+        work_columns::put(w, g.pixels, VALUE, parent, 0);
         i += 1;
     }
 }
@@ -70,7 +83,7 @@ pub fn mark_leaves(w: &mut [u32], n: usize, count: usize)
 fn out_value(w: &[u32], n: usize, negated: bool, p: usize) -> u8
     requires { ⌜ Writable n (now w) ⌝ }
     requires { ⌜ p < n ⌝ }
-    ensures { λ r. ⌜ r ≡ outValue negated n (now (w .entry)) p ⌝ }
+    ensures { λ r. ⌜ r ≡ sideGrey negated (valueAt n (now (w .entry)) p) ⌝ }
 {
     let node = work_columns::get(w, n, OWN, p);
     let value = work_columns::get(w, n, VALUE, node);
@@ -81,7 +94,7 @@ fn out_value(w: &[u32], n: usize, negated: bool, p: usize) -> u8
 pub fn write_values(w: &[u32], n: usize, negated: bool, out: &mut [u8])
     requires { ⌜ Writable n (now w) ⌝ }
     requires { ⌜ n ≤ length (now out) ⌝ }
-    ensures { λ _. ⌜ now (out .exit) ≡ over (table n (outValue negated n (now (w .entry)))) (now (out .entry)) ⌝ }
+    ensures { λ _. ⌜ now (out .exit) ≡ over (sidePlate negated (valuesIn n (now (w .entry)))) (now (out .entry)) ⌝ }
 {
     let mut p: usize = 0;
     while p < n {

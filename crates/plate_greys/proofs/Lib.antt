@@ -1,3 +1,2 @@
--- Laws of a plate in the work space.
+-- Laws of a plate, or its negative, in the work space.
 pub mod Sides
-pub mod Tree

@@ -1,21 +1,18 @@
--- Laws of a plate, or its negative, by pixel; a column that is filled from its front.
-use mathlib.Core.Path.{_≡_, refl, sym, _∙_, fun-ext}
-use mathlib.Core.Logic.{inl, inr}
+-- Laws of a plate, or its negative, by pixel, and of copying it into the work space.
+use mathlib.Core.Path.{_≡_, refl, sym, _∙_}
 use mathlib.Core.Bool.{Bool, true, false}
 use mathlib.Core.List.{List}
-use Prim.Native.Nat.{ℕ, _+_, _-_, _*_, _≤_, _<_}
-use native.Mathlib.Decide.{decLt}
+use Prim.Native.Nat.{ℕ, _+_, _-_, _≤_, _<_}
 use native.Mathlib.Omega.{arith}
-use lib.Dec.{ltb, ltb→lt, nltb→le, not-T}
-use lib.ListN.{length, getD, length-map, List·getD-eq-default}
-use Rattle.meaning.specs.Paths.{here}
+use lib.ListN.{length, length-map}
+use lib.Seq.{ext-getD}
 use Rattle.meaning.specs.Plate.{greatestGrey, grey, negative}
-use Rattle.theory_lists.proofs.Lists.{getD-map}
-use Rattle.theory_lists.proofs.Tests.{choice, pick-no}
+use Rattle.meaning.specs.Sets.{table}
+use Rattle.theory_lists.proofs.Lists.{getD-map, getD-table, length-table}
 use Rattle.work_columns.specs.Columns.{Frame, Stored, col}
 use Rattle.work_columns.specs.Layout.{GREY}
-use Rattle.work_columns.proofs.Columns.{frame-refl, frame-trans}
-use Rattle.plate_greys.specs.Tree.{Loaded}
+use Rattle.work_columns.proofs.Columns.{column-more, column-plate, frame-refl, frame-trans}
+use Rattle.plate_greys.specs.Loading.{Loaded}
 use Rattle.plate_greys.specs.Sides.{sidePlate, sideGrey}
 
 pub side-plate-length : (negated : Bool) (f : List ℕ) → length (sidePlate negated f) ≡ length f
@@ -33,24 +30,15 @@ unfolding negative
 side-plate-grey true f p l = getD-map (λ (g : ℕ). greatestGrey - g) f p l
 side-plate-grey false f p l = refl
 
--- beyond its pixels a plate is 0, as a column is beyond its end
-pub column-plate : (c n : ℕ) (w f : List ℕ) → length f ≡ n → ((p : ℕ) → p < n → col c n w p ≡ grey f p) → col c n w ≡ grey f
-unfolding col
-column-plate c n w f e agree = fun-ext go
-  where
-    go : (p : ℕ) → col c n w p ≡ grey f p
-    go p = elim (choice (ltb p n)) [
-      | inl t ↦ agree p (ltb→lt p n t)
-      | inr t ↦ pick-no (ltb p n) (getD w (c * n + p) 0) 0 t ∙ sym (List·getD-eq-default f 0 {n = p} (omega (arith, nltb→le p n (not-T (ltb p n) t))))
-    ]
-
--- one more entry of a column that agrees with g from its front
-pub column-more : {w w′ : List ℕ} {n c i v : ℕ} (g : ℕ → ℕ) → Stored w w′ n c i v → i < n → v ≡ g i
-    → ((j : ℕ) → j < i → col c n w j ≡ g j) → (j : ℕ) → j < i + 1 → col c n w′ j ≡ g j
-column-more {i = i} g s l e done j h = elim (decLt j i) [
-  | yes k ↦ s .put .other j (omega arith) (λ x. omega arith) ∙ done j k
-  | no k ↦ (let x : j ≡ i = omega arith in rw x (s .put .here ∙ e))
-]
+-- a plate or its negative, from its values
+pub side-plate-table : (negated : Bool) (n : ℕ) (g : ℕ → ℕ) → sidePlate negated (table n g) ≡ table n (λ (p : ℕ). sideGrey negated (g p))
+side-plate-table negated n g =
+    let len : length (sidePlate negated (table n g)) ≡ n = side-plate-length negated (table n g) ∙ length-table n g in
+    let g′ : ℕ → ℕ = λ (p : ℕ). sideGrey negated (g p) in
+    ext-getD 0 (sidePlate negated (table n g)) (table n g′) (len ∙ sym (length-table n g′))
+    (λ p l.
+    let m : p < n = rw len at l in
+    side-plate-grey negated (table n g) p (rw (length-table n g) m) ∙ rw (getD-table n g p 0 m) (sym (getD-table n g′ p 0 m)))
 
 -- ---- copying a plate into the column of the greys
 

@@ -1,4 +1,3 @@
 -- A plate, or its negative, in the work space.
 pub mod Sides
-pub mod Tree
-pub mod Standing
+pub mod Loading

@@ -5,7 +5,7 @@ ghost use lib.ListN.{length};
 ghost use Rattle.meaning.specs.Plate.{greatestGrey};
 ghost use Rattle.work_columns.specs.Columns.{Room};
 ghost use Rattle.plate_greys.specs.Sides.{sideGrey};
-ghost use Rattle.plate_greys.specs.Tree.{Loaded};
+ghost use Rattle.plate_greys.specs.Loading.{Loaded};
 use work_columns::GREY;
 
 // A grey, or its negative.

@@ -12,6 +12,10 @@ use Rattle.meaning.specs.Nodes.{node}
 use Rattle.work_columns.specs.Columns.{col, Room, Frame}
 use Rattle.work_columns.specs.declared.Shape.{Shape}
 
+-- the shape of a plate of n pixels, width w, height h, connectivity k
+abbrev pub shapeOf : (n w h k : ℕ) → Shape
+shapeOf n w h k = record { pixels = n; width = w; height = h; connectivity = k }
+
 -- the pixels of a plate of that shape that touch
 abbrev pub touchIn : Shape → ℕ → ℕ → Bool
 touchIn g = touch (g .connectivity) (g .width)
@@ -49,12 +53,16 @@ FIRST = 6
 abbrev pub NUMBER : ℕ
 NUMBER = 4
 
--- by node: its parent (until the parents are numbered, by its number in the order of flooding), its area; a free column for an operation
+-- by node: its parent (until the parents are numbered, by its number in the order of flooding), its area; what is held against the limit, its
+-- attribute: the area; a free column for an operation
 abbrev pub PARENT : ℕ
 PARENT = 5
 
 abbrev pub AREA : ℕ
 AREA = 7
+
+abbrev pub ATTRIBUTE : ℕ
+ATTRIBUTE = AREA
 
 abbrev pub VALUE : ℕ
 VALUE = 4

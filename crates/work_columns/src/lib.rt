@@ -4,6 +4,7 @@ ghost use mathlib.Core.List.{_++_};
 ghost use Prim.Native.Nat.{_+_, _*_, _<_};
 ghost use lib.ListN.{drop, replicate};
 ghost use Rattle.work_columns.specs.Columns.{col, Room, Stored};
+ghost use Rattle.work_columns.specs.Layout.{shapeOf};
 
 // The shape of a plate: its pixels, its width and height, its connectivity.
 pub struct Shape {
@@ -11,6 +12,18 @@ pub struct Shape {
     pub width: usize,
     pub height: usize,
     pub connectivity: usize,
+}
+
+// The shape of a plate from its numbers.
+pub fn shape_of(pixels: usize, width: u32, height: u32, connectivity: u32) -> Shape
+    ensures { λ r. ⌜ r ≡ shapeOf pixels width height connectivity ⌝ }
+{
+    Shape {
+        pixels: pixels,
+        width: width as usize,
+        height: height as usize,
+        connectivity: connectivity as usize,
+    }
 }
 
 // ---- the columns, as specs/Layout.antt names them
@@ -36,10 +49,12 @@ pub const FIRST: usize = 6;
 
 pub const NUMBER: usize = 4;
 
-// By node: its parent, its area; a free column for an operation.
+// By node: its parent, its area; what is held against the limit; a free column for an operation.
 pub const PARENT: usize = 5;
 
 pub const AREA: usize = 7;
+
+pub const ATTRIBUTE: usize = 7;
 
 pub const VALUE: usize = 4;
 

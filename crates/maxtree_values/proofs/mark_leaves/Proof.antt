@@ -3,14 +3,17 @@ use Prim.Native.Nat.{_-_, _≤_}
 use native.Mathlib.Omega.{arith}
 use Rattle.maxtree_values.proofs.mark_leaves.Statement.{statement}
 use Rattle.maxtree_values.proofs.mark_leaves.Tie as tie
-use Rattle.maxtree_values.specs.Values.{Parents}
-use Rattle.maxtree_values.proofs.Values.{Marking, marking-done, marking-first, marking-more, valued-parents, valued-store}
+use Rattle.work_columns.specs.Layout.{greysIn}
+use Rattle.maxtree_columns.specs.Tree.{TreeStands}
+use Rattle.maxtree_columns.proofs.Tree.{few-nodes, parent-earlier, some-nodes, tree-here}
+use Rattle.maxtree_values.proofs.Values.{valued-store, valued-tree}
+use Rattle.maxtree_values.proofs.Leaves.{Marking, marking-done, marking-first, marking-more}
 
 abbrev Inv-loop : tie.InvT-loop
-Inv-loop w₀ n count i₀ w i = (i ≤ count) × Parents n w count × Marking n count w₀ w i
+Inv-loop w₀ g count i₀ w i = (i ≤ count) × TreeStands g w count × Marking (g .pixels) count w₀ w i
 
 abbrev μ-loop : tie.MeasureT-loop
-μ-loop w₀ n count i₀ w i = count - i
+μ-loop w₀ g count i₀ w i = count - i
 
 set-ones-requires : tie.Need-set-ones-requires Inv-loop μ-loop
 set-ones-requires c κs = c .before .before .pre
@@ -18,20 +21,25 @@ set-ones-requires c κs = c .before .before .pre
 loop-holds : tie.Need-loop-holds Inv-loop μ-loop
 loop-holds c =
     let o = c .before .before .set-ones .ensures in
-    let p = c .before .before .before .before .before .pre in
-    (p .some-nodes, valued-parents p (o .valued), marking-first (o .values))
+    let t = c .before .before .before .before .before .pre in
+    (some-nodes t, tree-here (valued-tree t (o .valued)), marking-first (o .values))
 
 get-requires : tie.Need-get-requires Inv-loop μ-loop
-get-requires c κs = (c .before .before .loop .inv .1 .room, (omega arith, omega arith))
+get-requires c κs =
+    let t = c .before .before .loop .inv .1 in
+    (t .room, (omega arith, omega (arith, c .before .loop-test .taken, few-nodes t)))
 
 put-requires : tie.Need-put-requires Inv-loop μ-loop
 put-requires c κs =
     let l = c .before .before .before .before .loop in
-    let b = l .inv .1 .earlier (l .i) (c .before .before .before .loop-test .taken) in
-    (l .inv .1 .room, (omega arith, (omega (arith, c .before .get .ensures .0), omega arith)))
+    let t = l .inv .1 in
+    let b = parent-earlier t (l .i) (l .inv .2 .first) (c .before .before .before .loop-test .taken) in
+    (t .room, (omega arith, (omega (arith, c .before .get .ensures .0, few-nodes t, c .before .before .before .loop-test .taken), omega arith)))
 
 add-i : tie.Need-add-i Inv-loop μ-loop
-add-i c = omega arith
+add-i c =
+    let t = c .before .before .before .before .before .before .before .loop .inv .1 in
+    omega (arith, few-nodes t, t .room .small)
 
 loop-less : tie.Need-loop-less Inv-loop μ-loop
 loop-less c = omega arith
@@ -41,8 +49,8 @@ loop-again c =
     let l = c .before .before .before .before .before .before .before .loop in
     let s = c .before .before .put .ensures in (
       omega arith,
-      valued-parents (l .inv .1) (valued-store s),
-      marking-more (l .inv .1 .few) (l .inv .2) (c .before .before .before .before .get .ensures .0) s,
+      tree-here (valued-tree (l .inv .1) (valued-store s)),
+      marking-more (few-nodes (l .inv .1)) (l .inv .2) (c .before .before .before .before .get .ensures .0) s,
     )
 
 same-length : tie.Need-same-length Inv-loop μ-loop
@@ -51,7 +59,8 @@ same-length c =
 
 returns : tie.Need-returns Inv-loop μ-loop
 returns c =
-    marking-done (c .before .before .before .before .set-ones .ensures) (c .before .loop .inv .2) (c .loop-test .left) (c .before .loop .inv .0)
+    marking-done (c .before .before .before .before .before .before .before .pre) (c .before .before .before .before .set-ones .ensures) (c .before .loop .inv .2)
+    (c .loop-test .left) (c .before .loop .inv .0)
 
 pub mark-leaves-spec : {M : Type 1} → statement M
 mark-leaves-spec =

@@ -4,15 +4,16 @@ use Prim.Native.Nat.{_-_, _≤_}
 use native.Mathlib.Omega.{arith}
 use Rattle.maxtree_values.proofs.set_ones.Statement.{statement}
 use Rattle.maxtree_values.proofs.set_ones.Tie as tie
-use Rattle.work_columns.proofs.Columns.{before, frame-room}
+use Rattle.work_columns.proofs.Columns.{frame-room}
+use Rattle.maxtree_columns.proofs.Tree.{few-nodes}
 use Rattle.maxtree_values.specs.Values.{Ones}
-use Rattle.maxtree_values.proofs.Values.{ones-first, ones-more}
+use Rattle.maxtree_values.proofs.Leaves.{ones-first, ones-more}
 
 abbrev Inv-loop : tie.InvT-loop
-Inv-loop w₀ n count i₀ w i = (i ≤ count) × Ones n i w₀ w
+Inv-loop w₀ g count i₀ w i = (i ≤ count) × Ones (g .pixels) i w₀ w
 
 abbrev μ-loop : tie.MeasureT-loop
-μ-loop w₀ n count i₀ w i = count - i
+μ-loop w₀ g count i₀ w i = count - i
 
 loop-holds : tie.Need-loop-holds Inv-loop μ-loop
 loop-holds c = (omega arith, ones-first)
@@ -20,7 +21,8 @@ loop-holds c = (omega arith, ones-first)
 put-requires : tie.Need-put-requires Inv-loop μ-loop
 put-requires c κs =
     let l = c .before .before in
-    (frame-room (l .before .before .pre .room) (l .loop .inv .1 .valued .frame), (omega arith, (omega arith, omega arith)))
+    let t = l .before .before .pre in
+    (frame-room (t .room) (l .loop .inv .1 .valued .frame), (omega arith, (omega (arith, few-nodes t), omega arith)))
 
 add-i : tie.Need-add-i Inv-loop μ-loop
 add-i c = omega arith
@@ -32,7 +34,7 @@ loop-again : tie.Need-loop-again Inv-loop μ-loop
 loop-again c =
     let l = c .before .before .before .before .before in (
       omega arith,
-      ones-more (l .before .before .pre .few) (l .loop .inv .1) (c .before .before .before .before .loop-test .taken) (c .before .before .put .ensures),
+      ones-more (few-nodes (l .before .before .pre)) (l .loop .inv .1) (c .before .before .before .before .loop-test .taken) (c .before .before .put .ensures),
     )
 
 same-length : tie.Need-same-length Inv-loop μ-loop

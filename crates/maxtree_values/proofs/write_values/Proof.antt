@@ -1,18 +1,25 @@
 -- `maxtree_values::write_values` meets its contract. The invariant: the first p values are written, and the others are as they were.
 use mathlib.Core.Path.{_≡_, refl}
-use mathlib.Core.List.{_++_}
-use Prim.Native.Nat.{_-_, _≤_}
+use mathlib.Core.Bool.{Bool}
+use mathlib.Core.List.{List, _++_}
+use Prim.Native.Nat.{ℕ, _-_, _≤_}
 use native.Mathlib.Omega.{arith}
 use denote.Ref.{now}
 use lib.ListN.{length, drop, length-set}
 use Rattle.maxtree_values.proofs.write_values.Statement.{statement}
 use Rattle.maxtree_values.proofs.write_values.Tie as tie
 use Rattle.meaning.specs.Sets.{span, table}
-use Rattle.maxtree_values.specs.Values.{outValue}
+use Rattle.plate_greys.specs.Sides.{sideGrey}
+use Rattle.plate_greys.proofs.Sides.{side-plate-table}
+use Rattle.maxtree_values.specs.Values.{valueAt}
 use Rattle.maxtree_values.proofs.Tables.{written-more, written-over}
 
+-- what is written at pixel p
+abbrev written : Bool → ℕ → List ℕ → ℕ → ℕ
+written negated n w p = sideGrey negated (valueAt n w p)
+
 abbrev Inv-loop : tie.InvT-loop
-Inv-loop w n negated out₀ p₀ out p = (p ≤ n) × (length out ≡ length out₀) × (out ≡ table p (outValue negated n w) ++ drop p out₀)
+Inv-loop w n negated out₀ p₀ out p = (p ≤ n) × (length out ≡ length out₀) × (out ≡ table p (written negated n w) ++ drop p out₀)
 
 abbrev μ-loop : tie.MeasureT-loop
 μ-loop w n negated out₀ p₀ out p = n - p
@@ -40,7 +47,7 @@ loop-again c =
       omega arith,
       simp length-set (l .loop .inv .1),
       rw (l .loop .inv .2)
-          (written-more (outValue (s .negated) (s .n) (now (s .w))) (l .loop .p) (c .out-value .result) (now (s .out)) (omega arith) (c .out-value .ensures)),
+          (written-more (written (s .negated) (s .n) (now (s .w))) (l .loop .p) (c .out-value .result) (now (s .out)) (omega arith) (c .out-value .ensures)),
     )
 
 same-length : tie.Need-same-length Inv-loop μ-loop
@@ -50,7 +57,8 @@ returns : tie.Need-returns Inv-loop μ-loop
 returns c =
     let s = c .before .before .before .before .args in
     let x : c .before .loop .p ≡ s .n = omega arith in
-    rw (c .before .loop .inv .2, x) (written-over (s .n) (outValue (s .negated) (s .n) (now (s .w))) (now (s .out)))
+    rw (c .before .loop .inv .2, x, side-plate-table (s .negated) (s .n) (valueAt (s .n) (now (s .w))))
+    (written-over (s .n) (written (s .negated) (s .n) (now (s .w))) (now (s .out)))
 
 pub write-values-spec : {M : Type 1} → statement M
 write-values-spec =

@@ -1,0 +1,148 @@
+-- The climb to a node that qualifies, and the loop that gives each node its value in the cut.
+use mathlib.Core.Path.{_≡_, sym, ap, _∙_}
+use mathlib.Core.Bool.{Bool}
+use mathlib.Core.List.{List}
+use Prim.Native.Nat.{ℕ, zero, suc, _+_, _≤_, _<_}
+use native.Mathlib.Omega.{arith}
+use lib.Dec.{T, leb→le, le→leb}
+use lib.ListN.{length}
+use Rattle.meaning.specs.Cut.{cut}
+use Rattle.meaning.specs.Nodes.{holds}
+use Rattle.meaning.specs.Opening.{Criterion, atLeast, attribute, opened, openedAt}
+use Rattle.meaning.specs.Plate.{grey}
+use Rattle.meaning.specs.Sets.{nth, table}
+use Rattle.theory_opening.proofs.Opening.{opened-below}
+use Rattle.theory_tree.proofs.Cuts.{cut-kept, cut-own, cut-parent, cut-root}
+use Rattle.theorems.proofs.Plates.{at-limit, cut-is-opened}
+use Rattle.work_columns.specs.Columns.{Stored, col}
+use Rattle.work_columns.specs.Layout.{ATTRIBUTE, LEVEL, PARENT, VALUE, touchIn}
+use Rattle.work_columns.specs.declared.Shape.{Shape}
+use Rattle.work_columns.proofs.Columns.{column-more}
+use Rattle.maxtree_columns.specs.Tree.{Attributed, Tree, nodesIn}
+use Rattle.maxtree_columns.proofs.Tree.{few-nodes, parent-earlier, tree-attributed, tree-grid, tree-nodes}
+use Rattle.maxtree_values.specs.Values.{Climbable, Climbed, CutOf, Valued, ValuesAre}
+use Rattle.maxtree_values.proofs.Values.{valued-refl, valued-store, valued-trans, valued-tree, values-are}
+
+-- ---- one climb
+
+module _ {limit n : ℕ} {w : List ℕ} {settled i r : ℕ} where
+  -- from a node whose value is stored
+  pub climbed-stored : i < settled → r ≡ col VALUE n w i → r < 4294967296 → Climbed limit n w settled i r
+  climbed-stored l e b = record { fits = b; value-is = λ v c. e ∙ sym (c .stored i l) }
+
+  -- from a node that qualifies
+  pub climbed-here : limit ≤ col ATTRIBUTE n w i → r ≡ col LEVEL n w i → r < 4294967296 → Climbed limit n w settled i r
+  climbed-here q e b = record { fits = b; value-is = λ v c. e ∙ sym (c .kept i (omega arith) q) }
+
+-- from another: that of its parent, which has a smaller number
+module _ {limit n : ℕ} {w : List ℕ} {i : ℕ} (can : Climbable limit n w (suc i)) (s : col ATTRIBUTE n w i < limit) {p : ℕ} (e : p ≡ col PARENT n w i)
+  where
+    pub parent-first : p < i
+    parent-first = omega (arith, can .earlier i (omega arith) s)
+
+    pub climbable-parent : Climbable limit n w (suc p)
+    climbable-parent =
+        let l = parent-first in
+        record { room = can .room; few = omega (arith, can .few); earlier = λ j h. can .earlier j (omega arith) }
+
+    pub climbed-parent : {settled r : ℕ} → Climbed limit n w settled p r → Climbed limit n w settled i r
+    climbed-parent a = record {
+      fits = a .fits;
+      value-is = λ v c.
+          let l = parent-first in
+          a .value-is v (record { kept = λ j h. c .kept j (omega arith); passed = λ j h. c .passed j (omega arith); stored = c .stored })
+          ∙ ap v e ∙ sym (c .passed i (omega arith) s);
+    }
+
+-- ---- the loop over the nodes of a tree
+
+module _ {g : Shape} {f w : List ℕ} {count : ℕ} (t : Tree g f w count) (limit : ℕ) (m : limit ≤ g .pixels) where
+  abbrev n : ℕ
+  n = g .pixels
+
+  abbrev xs : List ℕ
+  xs = nodesIn g f
+
+  abbrev keep : (ℕ → Bool) → Bool
+  keep = atLeast (attribute (g .width) (g .height)) limit
+
+  crit : Criterion n keep
+  crit = rw (t .pixels) at (at-limit (t .plate) limit (rw (t .pixels) m))
+
+  -- the value of node i: the opening at its anchor
+  abbrev value : ℕ → ℕ
+  value i = openedAt n (touchIn g) keep (grey f) (nth xs i)
+
+  held : Attributed g f w count
+  held = tree-attributed t
+
+  qualifies : (i : ℕ) → i < count → limit ≤ col ATTRIBUTE n w i → T (keep (holds n (touchIn g) (grey f) xs i))
+  qualifies i l q =
+      le→leb limit (attribute (g .width) (g .height) (holds n (touchIn g) (grey f) xs i)) (omega (arith, held .attribute-is i l))
+
+  fails : (i : ℕ) → i < count → col ATTRIBUTE n w i < limit → T (keep (holds n (touchIn g) (grey f) xs i)) → ⊥
+  fails i l s k =
+      omega (arith, held .attribute-is i l, leb→le limit (attribute (g .width) (g .height) (holds n (touchIn g) (grey f) xs i)) k)
+
+  not-root : (i : ℕ) → i < count → col ATTRIBUTE n w i < limit → 0 < i
+  not-root zero l s = absurd (fails 0 l s (cut-root (tree-grid t) crit (tree-nodes t)))
+  not-root (suc i) l s = omega arith
+
+  pub cut-climbable : (i : ℕ) → i < count → Climbable limit n w (suc i)
+  cut-climbable i l = record {
+    room = t .room;
+    few = omega (arith, few-nodes t);
+    earlier = λ j h s. parent-earlier t j (not-root j (omega arith) s) (omega arith);
+  }
+
+  -- with the values of the first i nodes stored
+  cut-of : (i : ℕ) → i < count → ((j : ℕ) → j < i → col VALUE n w j ≡ value j) → CutOf limit n w (suc i) i value
+  cut-of i l done = record {
+    kept = λ j h q. cut-kept (tree-grid t) crit (tree-nodes t) j (qualifies j (omega arith) q) ∙ sym (t .level-is j (omega arith));
+    passed = λ j h s.
+        cut-parent (tree-grid t) crit (tree-nodes t) j (not-root j (omega arith) s) (omega (arith, t .nodes)) (fails j (omega arith) s)
+        ∙ ap value (sym (t .parent-is j (omega arith)));
+    stored = λ j h. sym (done j h);
+  }
+
+  pub cut-value : (i : ℕ) → i < count → ((j : ℕ) → j < i → col VALUE n w j ≡ value j) → {r : ℕ} → Climbed limit n w i i r → r ≡ value i
+  cut-value i l done c = c .value-is value (cut-of i l done)
+
+-- the first i nodes have their values
+pub record Cutting (g : Shape) (f : List ℕ) (count limit : ℕ) (w w′ : List ℕ) (i : ℕ) : Type 0 where
+  pub bound : i ≤ count
+  pub valued : Valued (g .pixels) w w′
+  pub tree : Tree g f w′ count
+  pub fits : limit ≤ g .pixels
+  pub values : (j : ℕ) → j < i → col VALUE (g .pixels) w′ j ≡ value tree limit fits j
+
+module _ {g : Shape} {f w : List ℕ} {count limit : ℕ} where
+  pub cutting-first : Tree g f w count → limit ≤ g .pixels → Cutting g f count limit w w 0
+  cutting-first t m =
+      record { bound = omega arith; valued = valued-refl (g .pixels) w; tree = t; fits = m; values = λ j l. absurd (omega arith) }
+
+  module _ {w′ : List ℕ} {i : ℕ} (a : Cutting g f count limit w w′ i) where
+    pub cutting-climbable : i < count → Climbable limit (g .pixels) w′ (suc i)
+    cutting-climbable l = cut-climbable (a .tree) limit (a .fits) i l
+
+    pub cutting-more : {w″ : List ℕ} {r : ℕ} → i < count → Climbed limit (g .pixels) w′ i i r → Stored w′ w″ (g .pixels) VALUE i r
+        → Cutting g f count limit w w″ (i + 1)
+    cutting-more l c s = record {
+      bound = omega arith;
+      valued = valued-trans (a .valued) (valued-store s);
+      tree = valued-tree (a .tree) (valued-store s);
+      fits = a .fits;
+      values = column-more (value (a .tree) limit (a .fits)) s (omega (arith, few-nodes (a .tree))) (cut-value (a .tree) limit (a .fits) i l (a .values) c) (a .values);
+    }
+
+    pub cutting-done : Tree g f w count → count ≤ i → ValuesAre (g .pixels) (cut (g .connectivity) (g .width) (g .height) limit f) w w′
+    unfolding opened
+    cutting-done t l =
+        let c = crit t limit (a .fits) in
+        let h : ℕ → ℕ = openedAt (g .pixels) (touchIn g) (keep t limit (a .fits)) (grey f) in
+        let e : table (g .pixels) h ≡ cut (g .connectivity) (g .width) (g .height) limit f =
+        rw (← t .pixels) (sym (cut-is-opened (t .plate) limit (rw (t .pixels) (a .fits)))) in
+        rw (← e)
+        (values-are t (a .valued) (value t limit (a .fits)) h (λ j b. a .values j (omega (arith, a .bound)))
+        (λ p b. sym (cut-own (tree-grid t) c (tree-nodes t) p b))
+        (λ p b. omega (arith, opened-below (tree-grid t) c (grey f) p, t .plate .greys p (omega (arith, t .pixels)))))
