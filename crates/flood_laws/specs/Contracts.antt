@@ -1,5 +1,5 @@
 -- What the functions of the code ask and leave, of the columns of the work space w (n entries each) and of the table t by level.
---     k the connectivity, wd and ht the width and height, n the pixels, h the lightest open level
+--     g the plate's shape, n its pixels, wd its width, h the lightest open level
 use mathlib.Core.Path.{_≡_}
 use mathlib.Core.Logic.{_⊎_}
 use mathlib.Core.Bool.{true}
@@ -7,9 +7,10 @@ use mathlib.Core.List.{List}
 use Prim.Native.Nat.{ℕ, suc, _+_, _*_, _/_, _%_, _≤_, _<_}
 use lib.Dec.{T, ltb, eqb}
 use Rattle.meaning.specs.Sets.{pick, area, sum}
-use Rattle.meaning.specs.Plate.{touch, connectivityFits, greatestGrey, maxPixels, maxExtent}
+use Rattle.meaning.specs.Plate.{connectivityFits, greatestGrey, maxPixels, maxExtent}
 use Rattle.work_columns.specs.Columns.{col, Room, Frame, Put, Stored}
-use Rattle.work_columns.specs.Layout.{GREY, OWN, STACK, FLOODAREA, FLOODPARENT, FloodedColumns}
+use Rattle.work_columns.specs.Layout.{GREY, OWN, STACK, FLOODAREA, FLOODPARENT, FloodedColumns, touchIn}
+use Rattle.work_columns.specs.declared.Shape.{Shape}
 use Rattle.flood_directions.specs.Directions.{Beside}
 use Rattle.flood_laws.specs.Machine.{Mach, Chain, Fresh, Linked, work}
 
@@ -50,25 +51,7 @@ unfoldable pub stack : ℕ → ℕ → List ℕ → ℕ → ℕ
 unfolding pixelOf
 stack wd n w i = pixelOf wd n (col STACK n w i)
 
--- ---- the machine in the work space and the table
-
-pub record Sizes (k wd ht n : ℕ) : Type 0 where
-  pub kind : connectivityFits k ≡ true
-  pub width : 0 < wd
-  pub wide : wd ≤ maxExtent
-  pub tall : ht ≤ maxExtent
-  pub pixels : n ≡ ht * wd
-
--- u: the lightest open level plus one; c: the current pixel, n where there is none
-pub record Machine (k wd ht n : ℕ) (w t : List ℕ) (u c : ℕ) : Type 0 where
-  pub sizes : Sizes k wd ht n
-  pub room : Room w n
-  pub table-room : Room t LEVELS
-  pub fresh : Fresh n (col GREY n w) (col OWN n w)
-  pub mach : Mach n (touch k wd) (col GREY n w) LEVELS (col OWN n w) (stack wd n w) (col FLOODAREA n w) (col FLOODPARENT n w)
-      (level COUNT t) (level NAME t) (level TOP t) (level START t) (level NEXT t) u (level NODES t 0) c
-
--- what every step leaves
+-- ---- what every step leaves
 pub record Kept (n : ℕ) (w w′ t t′ : List ℕ) : Type 0 where
   pub frame : Frame n w w′
   pub greys : col GREY n w′ ≡ col GREY n w
@@ -145,75 +128,6 @@ pub record Pushed (n : ℕ) (w w′ t t′ : List ℕ) (q m e u : ℕ) : Type 0 
   pub owned : Stored w w₁ n OWN q number
   pub placed : EntryPlaced n w₁ w′ t₁ t′ m e
 
--- ---- a step
-
--- between two steps: no pixel is current
-pub record Ready (k wd ht n : ℕ) (w t : List ℕ) (h : ℕ) : Type 0 where
-  pub machine : Machine k wd ht n w t (h + 1) n
-
--- the pixel in column x of row y is the current one, of the lightest open level
-pub record Looking (k wd ht n : ℕ) (w t : List ℕ) (h x y : ℕ) : Type 0 where
-  pub machine : Machine k wd ht n w t (h + 1) (y * wd + x)
-  pub column : x < wd
-  pub row : y < ht
-  pub high : col GREY n w (y * wd + x) ≡ h
-
--- the pixel in column x′ of row y′ touches that in column x of row y
-pub record Toward (k wd ht x y x′ y′ : ℕ) : Type 0 where
-  pub column : x′ < wd
-  pub row : y′ < ht
-  pub touches : T (touch k wd (y * wd + x) (y′ * wd + x′))
-
--- the pixels Q have been looked at from the current pixel. r is h where that stays the current one, else the level to which the flood has risen
-pub record Looked (k wd ht n : ℕ) (w w′ t t′ : List ℕ) (h x y : ℕ) (Q : ℕ → Type 0) (r : ℕ) : Type 0 where
-  pub kept : Kept n w w′ t t′
-  pub less : left n w′ t′ ≤ left n w t
-  pub still : (p : ℕ) → p < n → col OWN n w p < n → col OWN n w′ p < n
-  pub stays : r ≡ h → Looking k wd ht n w′ t′ h x y
-  pub seen : r ≡ h → (q : ℕ) → q < n → Q q → col OWN n w′ q < n
-  pub risen : (r ≡ h → ⊥) → Ready k wd ht n w′ t′ r
-
--- the pixel in direction d of the current one
-abbrev pub LookedIn : ℕ → ℕ → ℕ → ℕ → List ℕ → List ℕ → List ℕ → List ℕ → ℕ → ℕ → ℕ → ℕ → ℕ → Type 0
-LookedIn k wd ht n w w′ t t′ h x y d r = Looked k wd ht n w w′ t t′ h x y (λ (q : ℕ). Beside wd d (y * wd + x) q) r
-
--- the neighbours of p in the row above, and in the row below, with connectivity 8
-abbrev pub UpperRow : ℕ → ℕ → ℕ → Type 0
-UpperRow wd p q = (Beside wd 3 p q ⊎ Beside wd 4 p q) ⊎ Beside wd 6 p q
-
-abbrev pub LowerRow : ℕ → ℕ → ℕ → Type 0
-LowerRow wd p q = (Beside wd 2 p q ⊎ Beside wd 5 p q) ⊎ Beside wd 7 p q
-
--- the current pixel is done, or the flood has risen to r
-pub record Visited (k wd ht n : ℕ) (w w′ t t′ : List ℕ) (r : ℕ) : Type 0 where
-  pub kept : Kept n w w′ t t′
-  pub less : left n w′ t′ ≤ left n w t
-  pub ready : Ready k wd ht n w′ t′ r
-
--- the pixel of the entry e is the current one
-pub record Popped (k wd ht n : ℕ) (w t : List ℕ) (h e : ℕ) : Type 0 where
-  pub machine : Machine k wd ht n w t (h + 1) (pixelOf wd n e)
-  pub current : pixelOf wd n e < n
-  pub high : col GREY n w (pixelOf wd n e) ≡ h
-
--- the pixel of the entry e is taken off the stack of the lightest open level h: it is the current one, and less is left to do
-pub record Taken (k wd ht n : ℕ) (w t t′ : List ℕ) (h e : ℕ) : Type 0 where
-  pub popped : Popped k wd ht n w t′ h e
-  pub table : Frame LEVELS t t′
-  pub less : left n w t′ < left n w t
-
--- the lightest open level h has nothing on its stack
-pub record Closable (k wd ht n : ℕ) (w t : List ℕ) (h : ℕ) : Type 0 where
-  pub ready : Ready k wd ht n w t h
-  pub empty : level TOP t h ≡ level START t h
-
--- some steps; r is the next level plus one, 0 where it was the last step
-pub record Stepped (k wd ht n : ℕ) (w w′ t t′ : List ℕ) (r : ℕ) : Type 0 where
-  pub kept : Kept n w w′ t t′
-  pub less : 0 < r → left n w′ t′ < left n w t
-  pub ready : (l : ℕ) → r ≡ l + 1 → Ready k wd ht n w′ t′ l
-  pub tree : r ≡ 0 → FloodedColumns k wd n w′
-
 -- ---- before the first step
 
 -- the greys of the first p pixels are counted, and these are not seen: each holds n plus its grey
@@ -241,3 +155,97 @@ pub record Summed (t t′ : List ℕ) (m s : ℕ) : Type 0 where
 pub record Summable (t : List ℕ) : Type 0 where
   pub table-room : Room t LEVELS
   pub small : sum LEVELS (level START t) ≤ maxPixels
+
+-- ---- the machine in the work space and the table
+
+module _ (g : Shape) where
+  abbrev n : ℕ
+  n = g .pixels
+
+  abbrev wd : ℕ
+  wd = g .width
+
+  pub record Sizes : Type 0 where
+    pub kind : connectivityFits (g .connectivity) ≡ true
+    pub width : 0 < wd
+    pub wide : wd ≤ maxExtent
+    pub tall : g .height ≤ maxExtent
+    pub pixels : n ≡ g .height * wd
+
+  -- u: the lightest open level plus one; c: the current pixel, n where there is none
+  pub record Machine (w t : List ℕ) (u c : ℕ) : Type 0 where
+    pub sizes : Sizes
+    pub room : Room w n
+    pub table-room : Room t LEVELS
+    pub fresh : Fresh n (col GREY n w) (col OWN n w)
+    pub mach : Mach n (touchIn g) (col GREY n w) LEVELS (col OWN n w) (stack wd n w) (col FLOODAREA n w) (col FLOODPARENT n w)
+        (level COUNT t) (level NAME t) (level TOP t) (level START t) (level NEXT t) u (level NODES t 0) c
+
+  -- ---- a step
+
+  -- between two steps: no pixel is current
+  pub record Ready (w t : List ℕ) (h : ℕ) : Type 0 where
+    pub machine : Machine w t (h + 1) n
+
+  -- the pixel in column x of row y is the current one, of the lightest open level
+  pub record Looking (w t : List ℕ) (h x y : ℕ) : Type 0 where
+    pub machine : Machine w t (h + 1) (y * wd + x)
+    pub column : x < wd
+    pub row : y < g .height
+    pub high : col GREY n w (y * wd + x) ≡ h
+
+  -- the pixel in column x′ of row y′ touches that in column x of row y
+  pub record Toward (x y x′ y′ : ℕ) : Type 0 where
+    pub column : x′ < wd
+    pub row : y′ < g .height
+    pub touches : T (touchIn g (y * wd + x) (y′ * wd + x′))
+
+  -- the pixels Q have been looked at from the current pixel. r is h where that stays the current one, else the level to which the flood has risen
+  pub record Looked (w w′ t t′ : List ℕ) (h x y : ℕ) (Q : ℕ → Type 0) (r : ℕ) : Type 0 where
+    pub kept : Kept n w w′ t t′
+    pub less : left n w′ t′ ≤ left n w t
+    pub still : (p : ℕ) → p < n → col OWN n w p < n → col OWN n w′ p < n
+    pub stays : r ≡ h → Looking w′ t′ h x y
+    pub seen : r ≡ h → (q : ℕ) → q < n → Q q → col OWN n w′ q < n
+    pub risen : (r ≡ h → ⊥) → Ready w′ t′ r
+
+  -- the pixel in direction d of the current one
+  abbrev pub LookedIn : List ℕ → List ℕ → List ℕ → List ℕ → ℕ → ℕ → ℕ → ℕ → ℕ → Type 0
+  LookedIn w w′ t t′ h x y d r = Looked w w′ t t′ h x y (λ (q : ℕ). Beside wd d (y * wd + x) q) r
+
+  -- the neighbours of p in the row above, and in the row below, with connectivity 8
+  abbrev pub UpperRow : ℕ → ℕ → Type 0
+  UpperRow p q = (Beside wd 3 p q ⊎ Beside wd 4 p q) ⊎ Beside wd 6 p q
+
+  abbrev pub LowerRow : ℕ → ℕ → Type 0
+  LowerRow p q = (Beside wd 2 p q ⊎ Beside wd 5 p q) ⊎ Beside wd 7 p q
+
+  -- the current pixel is done, or the flood has risen to r
+  pub record Visited (w w′ t t′ : List ℕ) (r : ℕ) : Type 0 where
+    pub kept : Kept n w w′ t t′
+    pub less : left n w′ t′ ≤ left n w t
+    pub ready : Ready w′ t′ r
+
+  -- the pixel of the entry e is the current one
+  pub record Popped (w t : List ℕ) (h e : ℕ) : Type 0 where
+    pub machine : Machine w t (h + 1) (pixelOf wd n e)
+    pub current : pixelOf wd n e < n
+    pub high : col GREY n w (pixelOf wd n e) ≡ h
+
+  -- the pixel of the entry e is taken off the stack of the lightest open level h: it is the current one, and less is left to do
+  pub record Taken (w t t′ : List ℕ) (h e : ℕ) : Type 0 where
+    pub popped : Popped w t′ h e
+    pub table : Frame LEVELS t t′
+    pub less : left n w t′ < left n w t
+
+  -- the lightest open level h has nothing on its stack
+  pub record Closable (w t : List ℕ) (h : ℕ) : Type 0 where
+    pub ready : Ready w t h
+    pub empty : level TOP t h ≡ level START t h
+
+  -- some steps; r is the next level plus one, 0 where it was the last step
+  pub record Stepped (w w′ t t′ : List ℕ) (r : ℕ) : Type 0 where
+    pub kept : Kept n w w′ t t′
+    pub less : 0 < r → left n w′ t′ < left n w t
+    pub ready : (l : ℕ) → r ≡ l + 1 → Ready w′ t′ l
+    pub tree : r ≡ 0 → FloodedColumns g w′

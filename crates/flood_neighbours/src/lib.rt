@@ -1,17 +1,10 @@
 // The neighbours of a pixel, looked at until the flood rises.
 ghost use mathlib.Core.Path.{_≡_};
-ghost use Prim.Native.Nat.{ℕ, _+_, _*_, _<_};
+ghost use Prim.Native.Nat.{_+_, _*_, _<_};
 ghost use Rattle.flood_laws.specs.Contracts.{Looking, Toward, Looked, LookedIn, UpperRow, LowerRow, Visited};
 use work_columns::OWN;
+use work_columns::Shape;
 use work_columns::get;
-
-// The pixels, the width, the height and the connectivity of a plate.
-pub struct Shape {
-    pub n: usize,
-    pub width: usize,
-    pub height: usize,
-    pub connectivity: usize,
-}
 
 // The pixel in column x of row y.
 pub struct Pixel {
@@ -22,11 +15,11 @@ pub struct Pixel {
 // Looks at the pixel `to`, which touches the current pixel, `at`: a new pixel, which holds n plus its grey, is pushed. The answer is h, or the
 // level to which the flood has risen; then `at` is back on its stack.
 fn look(w: &mut [u32], t: &mut [u32], g: Shape, at: Pixel, to: Pixel, h: usize) -> usize
-    requires { ⌜ Looking (g .connectivity) (g .width) (g .height) (g .n) (now w) (now t) h (at .x) (at .y) ⌝ }
-    requires { ⌜ Toward (g .connectivity) (g .width) (g .height) (at .x) (at .y) (to .x) (to .y) ⌝ }
-    ensures { λ r. ⌜ Looked (g .connectivity) (g .width) (g .height) (g .n) (now (w .entry)) (now (w .exit)) (now (t .entry)) (now (t .exit)) h (at .x) (at .y) (λ (q : ℕ). q ≡ to .y * g .width + to .x) r ⌝ }
+    requires { ⌜ Looking g (now w) (now t) h (at .x) (at .y) ⌝ }
+    requires { ⌜ Toward g (at .x) (at .y) (to .x) (to .y) ⌝ }
+    ensures { λ r. ⌜ Looked g (now (w .entry)) (now (w .exit)) (now (t .entry)) (now (t .exit)) h (at .x) (at .y) (λ q. q ≡ to .y * g .width + to .x) r ⌝ }
 {
-    let n = g.n;
+    let n = g.pixels;
     let q = to.y * g.width + to.x;
     let o = get(w, n, OWN, q);
     if o < n {
@@ -43,9 +36,9 @@ fn look(w: &mut [u32], t: &mut [u32], g: Shape, at: Pixel, to: Pixel, h: usize) 
 
 // Looks at the pixel right of `at`, direction 0, where there is one.
 fn right(w: &mut [u32], t: &mut [u32], g: Shape, at: Pixel, h: usize) -> usize
-    requires { ⌜ Looking (g .connectivity) (g .width) (g .height) (g .n) (now w) (now t) h (at .x) (at .y) ⌝ }
+    requires { ⌜ Looking g (now w) (now t) h (at .x) (at .y) ⌝ }
     requires { ⌜ 0 < g .connectivity ⌝ }
-    ensures { λ r. ⌜ LookedIn (g .connectivity) (g .width) (g .height) (g .n) (now (w .entry)) (now (w .exit)) (now (t .entry)) (now (t .exit)) h (at .x) (at .y) 0 r ⌝ }
+    ensures { λ r. ⌜ LookedIn g (now (w .entry)) (now (w .exit)) (now (t .entry)) (now (t .exit)) h (at .x) (at .y) 0 r ⌝ }
 {
     if g.width <= at.x + 1 {
         return h;
@@ -65,9 +58,9 @@ fn right(w: &mut [u32], t: &mut [u32], g: Shape, at: Pixel, h: usize) -> usize
 
 // Looks at the pixel left of `at`, direction 1, where there is one.
 fn left(w: &mut [u32], t: &mut [u32], g: Shape, at: Pixel, h: usize) -> usize
-    requires { ⌜ Looking (g .connectivity) (g .width) (g .height) (g .n) (now w) (now t) h (at .x) (at .y) ⌝ }
+    requires { ⌜ Looking g (now w) (now t) h (at .x) (at .y) ⌝ }
     requires { ⌜ 1 < g .connectivity ⌝ }
-    ensures { λ r. ⌜ LookedIn (g .connectivity) (g .width) (g .height) (g .n) (now (w .entry)) (now (w .exit)) (now (t .entry)) (now (t .exit)) h (at .x) (at .y) 1 r ⌝ }
+    ensures { λ r. ⌜ LookedIn g (now (w .entry)) (now (w .exit)) (now (t .entry)) (now (t .exit)) h (at .x) (at .y) 1 r ⌝ }
 {
     if at.x == 0 {
         return h;
@@ -87,9 +80,9 @@ fn left(w: &mut [u32], t: &mut [u32], g: Shape, at: Pixel, h: usize) -> usize
 
 // Looks at the pixel below `at`, direction 2, where there is one.
 fn lower(w: &mut [u32], t: &mut [u32], g: Shape, at: Pixel, h: usize) -> usize
-    requires { ⌜ Looking (g .connectivity) (g .width) (g .height) (g .n) (now w) (now t) h (at .x) (at .y) ⌝ }
+    requires { ⌜ Looking g (now w) (now t) h (at .x) (at .y) ⌝ }
     requires { ⌜ 2 < g .connectivity ⌝ }
-    ensures { λ r. ⌜ LookedIn (g .connectivity) (g .width) (g .height) (g .n) (now (w .entry)) (now (w .exit)) (now (t .entry)) (now (t .exit)) h (at .x) (at .y) 2 r ⌝ }
+    ensures { λ r. ⌜ LookedIn g (now (w .entry)) (now (w .exit)) (now (t .entry)) (now (t .exit)) h (at .x) (at .y) 2 r ⌝ }
 {
     if g.height <= at.y + 1 {
         return h;
@@ -109,9 +102,9 @@ fn lower(w: &mut [u32], t: &mut [u32], g: Shape, at: Pixel, h: usize) -> usize
 
 // Looks at the pixel above `at`, direction 3, where there is one.
 fn upper(w: &mut [u32], t: &mut [u32], g: Shape, at: Pixel, h: usize) -> usize
-    requires { ⌜ Looking (g .connectivity) (g .width) (g .height) (g .n) (now w) (now t) h (at .x) (at .y) ⌝ }
+    requires { ⌜ Looking g (now w) (now t) h (at .x) (at .y) ⌝ }
     requires { ⌜ 3 < g .connectivity ⌝ }
-    ensures { λ r. ⌜ LookedIn (g .connectivity) (g .width) (g .height) (g .n) (now (w .entry)) (now (w .exit)) (now (t .entry)) (now (t .exit)) h (at .x) (at .y) 3 r ⌝ }
+    ensures { λ r. ⌜ LookedIn g (now (w .entry)) (now (w .exit)) (now (t .entry)) (now (t .exit)) h (at .x) (at .y) 3 r ⌝ }
 {
     if at.y == 0 {
         return h;
@@ -131,9 +124,9 @@ fn upper(w: &mut [u32], t: &mut [u32], g: Shape, at: Pixel, h: usize) -> usize
 
 // Looks at the pixel left above `at`, direction 4, where there is one.
 fn upper_left(w: &mut [u32], t: &mut [u32], g: Shape, at: Pixel, h: usize) -> usize
-    requires { ⌜ Looking (g .connectivity) (g .width) (g .height) (g .n) (now w) (now t) h (at .x) (at .y) ⌝ }
+    requires { ⌜ Looking g (now w) (now t) h (at .x) (at .y) ⌝ }
     requires { ⌜ 4 < g .connectivity ⌝ }
-    ensures { λ r. ⌜ LookedIn (g .connectivity) (g .width) (g .height) (g .n) (now (w .entry)) (now (w .exit)) (now (t .entry)) (now (t .exit)) h (at .x) (at .y) 4 r ⌝ }
+    ensures { λ r. ⌜ LookedIn g (now (w .entry)) (now (w .exit)) (now (t .entry)) (now (t .exit)) h (at .x) (at .y) 4 r ⌝ }
 {
     if at.x == 0 {
         return h;
@@ -156,9 +149,9 @@ fn upper_left(w: &mut [u32], t: &mut [u32], g: Shape, at: Pixel, h: usize) -> us
 
 // Looks at the pixel right below `at`, direction 5, where there is one.
 fn lower_right(w: &mut [u32], t: &mut [u32], g: Shape, at: Pixel, h: usize) -> usize
-    requires { ⌜ Looking (g .connectivity) (g .width) (g .height) (g .n) (now w) (now t) h (at .x) (at .y) ⌝ }
+    requires { ⌜ Looking g (now w) (now t) h (at .x) (at .y) ⌝ }
     requires { ⌜ 5 < g .connectivity ⌝ }
-    ensures { λ r. ⌜ LookedIn (g .connectivity) (g .width) (g .height) (g .n) (now (w .entry)) (now (w .exit)) (now (t .entry)) (now (t .exit)) h (at .x) (at .y) 5 r ⌝ }
+    ensures { λ r. ⌜ LookedIn g (now (w .entry)) (now (w .exit)) (now (t .entry)) (now (t .exit)) h (at .x) (at .y) 5 r ⌝ }
 {
     if g.width <= at.x + 1 {
         return h;
@@ -181,9 +174,9 @@ fn lower_right(w: &mut [u32], t: &mut [u32], g: Shape, at: Pixel, h: usize) -> u
 
 // Looks at the pixel right above `at`, direction 6, where there is one.
 fn upper_right(w: &mut [u32], t: &mut [u32], g: Shape, at: Pixel, h: usize) -> usize
-    requires { ⌜ Looking (g .connectivity) (g .width) (g .height) (g .n) (now w) (now t) h (at .x) (at .y) ⌝ }
+    requires { ⌜ Looking g (now w) (now t) h (at .x) (at .y) ⌝ }
     requires { ⌜ 6 < g .connectivity ⌝ }
-    ensures { λ r. ⌜ LookedIn (g .connectivity) (g .width) (g .height) (g .n) (now (w .entry)) (now (w .exit)) (now (t .entry)) (now (t .exit)) h (at .x) (at .y) 6 r ⌝ }
+    ensures { λ r. ⌜ LookedIn g (now (w .entry)) (now (w .exit)) (now (t .entry)) (now (t .exit)) h (at .x) (at .y) 6 r ⌝ }
 {
     if at.x + 1 >= g.width {
         return h;
@@ -206,9 +199,9 @@ fn upper_right(w: &mut [u32], t: &mut [u32], g: Shape, at: Pixel, h: usize) -> u
 
 // Looks at the pixel left below `at`, direction 7, where there is one.
 fn lower_left(w: &mut [u32], t: &mut [u32], g: Shape, at: Pixel, h: usize) -> usize
-    requires { ⌜ Looking (g .connectivity) (g .width) (g .height) (g .n) (now w) (now t) h (at .x) (at .y) ⌝ }
+    requires { ⌜ Looking g (now w) (now t) h (at .x) (at .y) ⌝ }
     requires { ⌜ 7 < g .connectivity ⌝ }
-    ensures { λ r. ⌜ LookedIn (g .connectivity) (g .width) (g .height) (g .n) (now (w .entry)) (now (w .exit)) (now (t .entry)) (now (t .exit)) h (at .x) (at .y) 7 r ⌝ }
+    ensures { λ r. ⌜ LookedIn g (now (w .entry)) (now (w .exit)) (now (t .entry)) (now (t .exit)) h (at .x) (at .y) 7 r ⌝ }
 {
     if at.x == 0 {
         return h;
@@ -231,9 +224,9 @@ fn lower_left(w: &mut [u32], t: &mut [u32], g: Shape, at: Pixel, h: usize) -> us
 
 // Looks at the neighbours of `at` in the row above, until the flood rises. The answer is h, or the level to which the flood has risen.
 fn upper_row(w: &mut [u32], t: &mut [u32], g: Shape, at: Pixel, h: usize) -> usize
-    requires { ⌜ Looking (g .connectivity) (g .width) (g .height) (g .n) (now w) (now t) h (at .x) (at .y) ⌝ }
+    requires { ⌜ Looking g (now w) (now t) h (at .x) (at .y) ⌝ }
     requires { ⌜ 6 < g .connectivity ⌝ }
-    ensures { λ r. ⌜ Looked (g .connectivity) (g .width) (g .height) (g .n) (now (w .entry)) (now (w .exit)) (now (t .entry)) (now (t .exit)) h (at .x) (at .y) (UpperRow (g .width) (at .y * g .width + at .x)) r ⌝ }
+    ensures { λ r. ⌜ Looked g (now (w .entry)) (now (w .exit)) (now (t .entry)) (now (t .exit)) h (at .x) (at .y) (UpperRow g (at .y * g .width + at .x)) r ⌝ }
 {
     let a = upper(w, t, g, at, h);
     if a != h {
@@ -248,9 +241,9 @@ fn upper_row(w: &mut [u32], t: &mut [u32], g: Shape, at: Pixel, h: usize) -> usi
 
 // Looks at the neighbours of `at` in the row below, until the flood rises. The answer is h, or the level to which the flood has risen.
 fn lower_row(w: &mut [u32], t: &mut [u32], g: Shape, at: Pixel, h: usize) -> usize
-    requires { ⌜ Looking (g .connectivity) (g .width) (g .height) (g .n) (now w) (now t) h (at .x) (at .y) ⌝ }
+    requires { ⌜ Looking g (now w) (now t) h (at .x) (at .y) ⌝ }
     requires { ⌜ 7 < g .connectivity ⌝ }
-    ensures { λ r. ⌜ Looked (g .connectivity) (g .width) (g .height) (g .n) (now (w .entry)) (now (w .exit)) (now (t .entry)) (now (t .exit)) h (at .x) (at .y) (LowerRow (g .width) (at .y * g .width + at .x)) r ⌝ }
+    ensures { λ r. ⌜ Looked g (now (w .entry)) (now (w .exit)) (now (t .entry)) (now (t .exit)) h (at .x) (at .y) (LowerRow g (at .y * g .width + at .x)) r ⌝ }
 {
     let a = lower(w, t, g, at, h);
     if a != h {
@@ -265,9 +258,9 @@ fn lower_row(w: &mut [u32], t: &mut [u32], g: Shape, at: Pixel, h: usize) -> usi
 
 // Looks at the neighbours of `at`, a pixel of the lightest open level h, with connectivity 4, until the flood rises: the level at which it goes on.
 pub fn four(w: &mut [u32], t: &mut [u32], g: Shape, at: Pixel, h: usize) -> usize
-    requires { ⌜ Looking (g .connectivity) (g .width) (g .height) (g .n) (now w) (now t) h (at .x) (at .y) ⌝ }
+    requires { ⌜ Looking g (now w) (now t) h (at .x) (at .y) ⌝ }
     requires { ⌜ g .connectivity ≡ 4 ⌝ }
-    ensures { λ r. ⌜ Visited (g .connectivity) (g .width) (g .height) (g .n) (now (w .entry)) (now (w .exit)) (now (t .entry)) (now (t .exit)) r ⌝ }
+    ensures { λ r. ⌜ Visited g (now (w .entry)) (now (w .exit)) (now (t .entry)) (now (t .exit)) r ⌝ }
 {
     let a = upper(w, t, g, at, h);
     if a != h {
@@ -286,9 +279,9 @@ pub fn four(w: &mut [u32], t: &mut [u32], g: Shape, at: Pixel, h: usize) -> usiz
 
 // Looks at the neighbours of `at`, a pixel of the lightest open level h, with connectivity 6, until the flood rises: the level at which it goes on.
 pub fn six(w: &mut [u32], t: &mut [u32], g: Shape, at: Pixel, h: usize) -> usize
-    requires { ⌜ Looking (g .connectivity) (g .width) (g .height) (g .n) (now w) (now t) h (at .x) (at .y) ⌝ }
+    requires { ⌜ Looking g (now w) (now t) h (at .x) (at .y) ⌝ }
     requires { ⌜ g .connectivity ≡ 6 ⌝ }
-    ensures { λ r. ⌜ Visited (g .connectivity) (g .width) (g .height) (g .n) (now (w .entry)) (now (w .exit)) (now (t .entry)) (now (t .exit)) r ⌝ }
+    ensures { λ r. ⌜ Visited g (now (w .entry)) (now (w .exit)) (now (t .entry)) (now (t .exit)) r ⌝ }
 {
     let a = upper(w, t, g, at, h);
     if a != h {
@@ -315,9 +308,9 @@ pub fn six(w: &mut [u32], t: &mut [u32], g: Shape, at: Pixel, h: usize) -> usize
 
 // Looks at the neighbours of `at`, a pixel of the lightest open level h, with connectivity 8, until the flood rises: the level at which it goes on.
 pub fn eight(w: &mut [u32], t: &mut [u32], g: Shape, at: Pixel, h: usize) -> usize
-    requires { ⌜ Looking (g .connectivity) (g .width) (g .height) (g .n) (now w) (now t) h (at .x) (at .y) ⌝ }
+    requires { ⌜ Looking g (now w) (now t) h (at .x) (at .y) ⌝ }
     requires { ⌜ g .connectivity ≡ 8 ⌝ }
-    ensures { λ r. ⌜ Visited (g .connectivity) (g .width) (g .height) (g .n) (now (w .entry)) (now (w .exit)) (now (t .entry)) (now (t .exit)) r ⌝ }
+    ensures { λ r. ⌜ Visited g (now (w .entry)) (now (w .exit)) (now (t .entry)) (now (t .exit)) r ⌝ }
 {
     let a = upper_row(w, t, g, at, h);
     if a != h {

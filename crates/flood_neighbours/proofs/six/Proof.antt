@@ -162,7 +162,7 @@ returns-6 c =
     let at-args = at-upper .before .before .before .before .before in
     let args = at-args .args in
     visited looked6
-    (λ q l t. all-six (args .g .connectivity) (args .g .width) (args .at .y * args .g .width + args .at .x) q (at-args .pre .0 .machine .sizes .kind) t
+    (λ q l t. all-six (args .g) (args .at .y * args .g .width + args .at .x) q (at-args .pre .0 .machine .sizes .kind) t
     (at-args .pre .1))
 
 same-length-11 : tie.Need-same-length-11

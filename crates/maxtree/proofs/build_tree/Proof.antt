@@ -10,7 +10,7 @@ flood-requires c κs = search needs
 number-requires : tie.Need-number-requires
 number-requires c κs =
     let f = c .before .before .before in
-    (still-buildable (f .before .before .before .pre) (f .flood .ensures), f .flood .ensures .flooded)
+    (still-buildable (f .flood .ensures) (f .before .before .before .pre), f .flood .ensures .flooded)
 
 same-length : tie.Need-same-length
 same-length c = search needs
