@@ -1,5 +1,5 @@
 -- The facts that every operation on the tree starts from.
-use mathlib.Core.Path.{_∙_}
+use mathlib.Core.Path.{refl, _∙_}
 use mathlib.Core.Bool.{Bool}
 use mathlib.Core.List.{List}
 use Prim.Native.Nat.{ℕ}
@@ -46,8 +46,8 @@ grow {k} {wd} {ht} {n} {w} {w′} {count} can did =
 -- ---- from a plate that is not refused to its tree
 
 module _ {k w h : ℕ} {f work : List ℕ} (can : PlateReady k w h f work) where
-  taken : Taken k w h (length f)
-  taken = plate-taken k w h (length f) (can .taken)
+  taken : Taken k w h f
+  taken = plate-taken k w h f refl (can .taken)
 
   pub ready-room : Room work (length f)
   ready-room = record { small = taken-few taken; room = omega (arith, can .room, taken .long) }

@@ -15,7 +15,7 @@ use Rattle.plate_greys.specs.Sides.{sidePlate}
 
 -- none of 1, 2 and 3 refuses the plate, and there is work space for it
 pub record PlateReady (k w h : ℕ) (f work : List ℕ) : Type 0 where
-  pub taken : plateRefusal k w h (length f) 0 ≡ 0
+  pub taken : plateRefusal k w h f 0 ≡ 0
   pub room : 8 * (w * h) ≤ length work
 
 -- the greys of f, or of its negative, are copied in; no grey of f is above the greatest
