@@ -1,10 +1,11 @@
 -- the examples and the slips of SPECIFICATION 10, computed from the definitions.
 use mathlib.Core.Path.{_≡_, refl}
 use mathlib.Core.Bool.{true}
-use mathlib.Core.List.{[], _∷_, map}
+use mathlib.Core.List.{List, [], _∷_, map}
 use Prim.Native.Nat.{ℕ, zero, suc, _-_, _*_}
 use native.Mathlib.Omega.{arith}
 use lib.Dec.{ltb}
+use lib.ListN.{drop}
 use Rattle.meaning.specs.Sets.{area, table}
 use Rattle.meaning.specs.Plate.{greatestGrey, negative, apart}
 use Rattle.meaning.specs.Opening.{opened, cleaned, lightSide, darkSide, atLeast, attribute}
@@ -139,18 +140,24 @@ pub ink-rest : inkOf 10 ∷ inkOf 7 ∷ [] ≡ 96 ∷ 97 ∷ []
 unfolding inkOf
 ink-rest = refl
 
+-- the small plate without its first pixel
+abbrev short : List ℕ
+short = drop 1 small
+
 -- limits 0 and 13 give 4; each other condition, with all later ones met too; nothing refused
-pub refusals : filterRefusal 4 4 3 0 12 12 96 ∷ filterRefusal 4 4 3 13 12 12 96 ∷ filterRefusal 5 0 3 0 11 0 0 ∷ filterRefusal 7 0 3 0 11 0 0
-    ∷ filterRefusal 6 0 3 0 11 0 0 ∷ filterRefusal 8 0 3 0 11 0 0 ∷ filterRefusal 8 4 3 0 11 0 0 ∷ filterRefusal 8 4 3 12 12 11 95
-    ∷ filterRefusal 8 4 3 12 12 12 95 ∷ filterRefusal 8 4 3 12 12 12 96 ∷ filterRefusal 6 4 3 12 12 12 96
-    ∷ maximaRefusal 4 4 3 12 11 0 ∷ treeRefusal 4 4 3 12 4 3 95 ∷ treeRefusal 4 4 3 12 4 3 96 ∷ []
+pub refusals : filterRefusal 4 4 3 0 small 12 96 ∷ filterRefusal 4 4 3 13 small 12 96 ∷ filterRefusal 5 0 3 0 short 0 0 ∷ filterRefusal 7 0 3 0 short 0 0
+    ∷ filterRefusal 6 0 3 0 short 0 0 ∷ filterRefusal 8 0 3 0 short 0 0 ∷ filterRefusal 8 4 3 0 short 0 0 ∷ filterRefusal 8 4 3 12 small 11 95
+    ∷ filterRefusal 8 4 3 12 small 12 95 ∷ filterRefusal 8 4 3 12 small 12 96 ∷ filterRefusal 6 4 3 12 small 12 96
+    ∷ maximaRefusal 4 4 3 small 11 0 ∷ treeRefusal 4 4 3 small 4 3 95 ∷ treeRefusal 4 4 3 small 4 3 96 ∷ []
     ≡ 4 ∷ 4 ∷ 1 ∷ 1 ∷ 2 ∷ 2 ∷ 3 ∷ 5 ∷ 6 ∷ 0 ∷ 0 ∷ 5 ∷ 6 ∷ 5 ∷ []
 unfolding filterRefusal maximaRefusal treeRefusal
 refusals = refl
 
 -- sides 0 and 3 give 26, with all later conditions met too or none; sides 1 and 2 leave it to the later ones
-pub side-refusals : cleanRefusal 0 5 0 3 0 11 0 0 ∷ cleanRefusal 3 5 0 3 0 11 0 0 ∷ cleanRefusal 0 4 4 3 12 12 12 96 ∷ cleanRefusal 3 4 4 3 12 12 12 96
-    ∷ cleanRefusal 1 5 0 3 0 11 0 0 ∷ cleanRefusal 2 5 0 3 0 11 0 0 ∷ cleanRefusal 1 4 4 3 12 12 12 96 ∷ cleanRefusal 2 4 4 3 12 12 12 96 ∷ []
+pub side-refusals : cleanRefusal 0 5 0 3 0 short 0 0 ∷ cleanRefusal 3 5 0 3 0 short 0 0
+    ∷ cleanRefusal 0 4 4 3 12 small 12 96 ∷ cleanRefusal 3 4 4 3 12 small 12 96
+    ∷ cleanRefusal 1 5 0 3 0 short 0 0 ∷ cleanRefusal 2 5 0 3 0 short 0 0
+    ∷ cleanRefusal 1 4 4 3 12 small 12 96 ∷ cleanRefusal 2 4 4 3 12 small 12 96 ∷ []
     ≡ 26 ∷ 26 ∷ 26 ∷ 26 ∷ 1 ∷ 1 ∷ 0 ∷ 0 ∷ []
 unfolding cleanRefusal
 side-refusals = refl

@@ -1,8 +1,8 @@
 -- What an operation answers and what it leaves in its buffers: SPECIFICATION 9. An operation's refusal is a definition
--- of the sizes that it was given; 0 is no refusal.
+-- of the plate and the sizes that it was given; 0 is no refusal.
 use mathlib.Core.Bool.{Bool, not, _&&_, _||_}
 use mathlib.Core.List.{List, _++_}
-use Prim.Native.Nat.{ℕ, _*_}
+use Prim.Native.Nat.{ℕ, _-_, _*_}
 use lib.Dec.{eqb, leb, ltb}
 use lib.ListN.{length, drop, replicate}
 use Rattle.meaning.specs.Sets.{pick}
@@ -25,51 +25,56 @@ outAfter refusal answer out = pick (eqb refusal 0) (over answer out) out
 abbrev pub workAfter : Bool → ℕ → List ℕ → List ℕ
 workAfter began pixels work = pick began (replicate (8 * pixels) 0 ++ drop (8 * pixels) work) work
 
--- ---- the conditions that several operations share. k: connectivity, w: width, h: height; the others are lengths
+-- ---- the conditions that several operations share. k: connectivity, w: width, h: height, f: the plate; out, counts, losses,
+-- work: lengths of what was lent
 
 -- 26 side neither light nor dark
 abbrev pub sideRefusal : ℕ → ℕ → ℕ
 sideRefusal side later = refuse (not (sideFits side)) 26 later
 
 -- 1 connectivity not 4, 6 or 8; 2 width or height or pixels beyond the grid; 3 plate length not the pixels
-abbrev pub plateRefusal : ℕ → ℕ → ℕ → ℕ → ℕ → ℕ
-plateRefusal k w h plate later =
-    refuse (not (connectivityFits k)) 1 (refuse (not (gridFits w h)) 2 (refuse (not (eqb plate (w * h))) 3 later))
-
--- 6 work space shorter than 8 × pixels
-abbrev pub workRefusal : ℕ → ℕ → ℕ → ℕ → ℕ
-workRefusal w h work later = refuse (ltb work (8 * (w * h))) 6 later
+abbrev pub plateRefusal : ℕ → ℕ → ℕ → List ℕ → ℕ → ℕ
+plateRefusal k w h f later =
+    refuse (not (connectivityFits k)) 1 (refuse (not (gridFits w h)) 2 (refuse (not (eqb (length f) (w * h))) 3 later))
 
 -- 4 limit 0 or above the pixels
-abbrev pub limitRefusal : ℕ → ℕ → ℕ → ℕ → ℕ
-limitRefusal w h limit later = refuse (not (leb 1 limit && leb limit (w * h))) 4 later
+abbrev pub limitRefusal : ℕ → ℕ → ℕ → ℕ
+limitRefusal pixels limit later = refuse (not (leb 1 limit && leb limit pixels)) 4 later
 
 -- 5 output shorter than what it is to hold
 abbrev pub outRefusal : ℕ → ℕ → ℕ → ℕ
 outRefusal needed out later = refuse (ltb out needed) 5 later
 
+-- 5 either table of the size list shorter than pixels - 1
+abbrev pub tablesRefusal : ℕ → ℕ → ℕ → ℕ → ℕ
+tablesRefusal pixels counts losses later = outRefusal (pixels - 1) counts (outRefusal (pixels - 1) losses later)
+
+-- 6 work space shorter than 8 × pixels
+abbrev pub workRefusal : ℕ → ℕ → ℕ → ℕ
+workRefusal pixels work later = refuse (ltb work (8 * pixels)) 6 later
+
 -- ---- operation by operation
 
 -- a plate, a limit and an output of as many pixels: 1, 2, 3, 4, 5, 6
-unfoldable pub filterRefusal : ℕ → ℕ → ℕ → ℕ → ℕ → ℕ → ℕ → ℕ
+unfoldable pub filterRefusal : ℕ → ℕ → ℕ → ℕ → List ℕ → ℕ → ℕ → ℕ
 unfolding connectivityFits gridFits
-filterRefusal k w h limit plate out work =
-    plateRefusal k w h plate (limitRefusal w h limit (outRefusal (w * h) out (workRefusal w h work 0)))
+filterRefusal k w h limit f out work =
+    plateRefusal k w h f (limitRefusal (w * h) limit (outRefusal (w * h) out (workRefusal (w * h) work 0)))
 
 -- cleaning: 26, then the same
-unfoldable pub cleanRefusal : ℕ → ℕ → ℕ → ℕ → ℕ → ℕ → ℕ → ℕ → ℕ
+unfoldable pub cleanRefusal : ℕ → ℕ → ℕ → ℕ → ℕ → List ℕ → ℕ → ℕ → ℕ
 unfolding sideFits filterRefusal
-cleanRefusal side k w h limit plate out work = sideRefusal side (filterRefusal k w h limit plate out work)
+cleanRefusal side k w h limit f out work = sideRefusal side (filterRefusal k w h limit f out work)
 
 -- marking maxima: 1, 2, 3, 5, 6
-unfoldable pub maximaRefusal : ℕ → ℕ → ℕ → ℕ → ℕ → ℕ → ℕ
+unfoldable pub maximaRefusal : ℕ → ℕ → ℕ → List ℕ → ℕ → ℕ → ℕ
 unfolding connectivityFits gridFits
-maximaRefusal k w h plate out work = plateRefusal k w h plate (outRefusal (w * h) out (workRefusal w h work 0))
+maximaRefusal k w h f out work = plateRefusal k w h f (outRefusal (w * h) out (workRefusal (w * h) work 0))
 
 -- node list, writing a record: 1, 2, 3, 6, then 5 when the answer needs more places than were lent
-unfoldable pub treeRefusal : ℕ → ℕ → ℕ → ℕ → ℕ → ℕ → ℕ → ℕ
+unfoldable pub treeRefusal : ℕ → ℕ → ℕ → List ℕ → ℕ → ℕ → ℕ → ℕ
 unfolding connectivityFits gridFits
-treeRefusal k w h plate needed out work = plateRefusal k w h plate (workRefusal w h work (outRefusal needed out 0))
+treeRefusal k w h f needed out work = plateRefusal k w h f (workRefusal (w * h) work (outRefusal needed out 0))
 
 -- where the work of an operation whose last condition is 5 began
 abbrev pub began : ℕ → Bool

@@ -28,12 +28,12 @@ pub record PlateAnswered (k w h : ℕ) (f : List ℕ) (refusal : ℕ) (answer ou
 -- cleaning on a side at a limit
 abbrev pub Cleaned : (side k w h limit : ℕ) (f out out′ work work′ : List ℕ) (r : ℕ) → Type 0
 Cleaned side k w h limit f out out′ work work′ r =
-    PlateAnswered k w h f (cleanRefusal side k w h limit (length f) (length out) (length work)) (cleaned side k w limit f) out out′ work work′ r
+    PlateAnswered k w h f (cleanRefusal side k w h limit f (length out) (length work)) (cleaned side k w limit f) out out′ work work′ r
 
 -- marking the regional maxima
 abbrev pub MaximaMarked : (k w h : ℕ) (f out out′ work work′ : List ℕ) (r : ℕ) → Type 0
 MaximaMarked k w h f out out′ work work′ r =
-    PlateAnswered k w h f (maximaRefusal k w h (length f) (length out) (length work)) (marks k w f) out out′ work work′ r
+    PlateAnswered k w h f (maximaRefusal k w h f (length out) (length work)) (marks k w f) out out′ work work′ r
 
 -- ---- the node list: one output for each column
 

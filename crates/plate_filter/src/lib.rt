@@ -30,7 +30,7 @@ pub fn clean(
         width,
         height,
         limit,
-        n,
+        image,
         out.len(),
         work.len(),
     );
@@ -61,7 +61,7 @@ pub fn regional_maxima(
         connectivity,
         width,
         height,
-        n,
+        image,
         out.len(),
         work.len(),
     );

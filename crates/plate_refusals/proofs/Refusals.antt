@@ -1,114 +1,146 @@
--- The chain of the conditions of an operation: what sizes say that are not refused, and which condition decides.
+-- Chains of conditions: which condition decides, and what is known where none is met.
 use mathlib.Core.Path.{_≡_, refl, sym, _∙_}
 use mathlib.Core.Bool.{Bool, true, false, not, _&&_}
+use mathlib.Core.List.{List}
 use mathlib.Core.Logic.{_⊎_, inl, inr}
-use Prim.Native.Nat.{ℕ, _*_, _≤_, _<_}
+use Prim.Native.Nat.{ℕ, _-_, _*_, _≤_, _<_}
 use native.Mathlib.Omega.{arith}
 use lib.Dec.{T, leb, ltb, eqb, leb→le, eqb→eq}
+use lib.ListN.{length}
 use borrow.Author.Tests.{eqb-true, eq-eqb, not-false, ltb-false, le-ltb}
-use Rattle.meaning.specs.Answers.{cleanRefusal, filterRefusal, limitRefusal, maximaRefusal, outRefusal, plateRefusal, refuse, treeRefusal, workRefusal}
+use Rattle.meaning.specs.Answers.{cleanRefusal, filterRefusal, limitRefusal, maximaRefusal, outRefusal, plateRefusal, refuse, tablesRefusal, treeRefusal, workRefusal}
 use Rattle.meaning.specs.Opening.{darkSide, lightSide, sideFits}
 use Rattle.meaning.specs.Plate.{connectivityFits, gridFits, maxPixels}
 use Rattle.theory_connectivity.proofs.Sizes.{grid-sizes}
 use Rattle.theory_lists.proofs.Tests.{either-cases, passes, tests}
+
+-- ---- any chain, as a function of what the later conditions give
+
+-- none of the conditions is met, and the later ones decide; or one is, and they do not matter
+pub data Chain : (ℕ → ℕ) → Type 0 where
+  through : {s : ℕ → ℕ} → ((later : ℕ) → s later ≡ later) → Chain s
+  stops : {s : ℕ → ℕ} (number : ℕ) → 0 < number → ((later : ℕ) → s later ≡ number) → Chain s
+
+pub one : (met : Bool) (number : ℕ) → 0 < number → Chain (refuse met number)
+one true number l = stops number l (λ later. refl)
+one false number l = through (λ later. refl)
+
+pub chained : {s t : ℕ → ℕ} → Chain s → Chain t → Chain (λ later. s (t later))
+chained {s} {t} (through p) (through q) = through (λ later. p (t later) ∙ q later)
+chained {s} {t} (through p) (stops number l q) = stops number l (λ later. p (t later) ∙ q later)
+chained {s} {t} (stops number l p) c = stops number l (λ later. p (t later))
+
+-- r was found to be the chain's number: it stays, or the later conditions decide
+pub decided : {s : ℕ → ℕ} {r : ℕ} → Chain s → r ≡ s 0 → (r ≡ 0 → ⊥) → (later : ℕ) → r ≡ s later
+decided (through p) e x later = absurd (x (e ∙ p 0))
+decided (stops number l p) e x later = e ∙ p 0 ∙ sym (p later)
+
+pub passed : {s : ℕ → ℕ} {r : ℕ} → Chain s → r ≡ s 0 → r ≡ 0 → (later : ℕ) → s later ≡ later
+passed (through p) e z later = p later
+passed (stops number l p) e z later = absurd (omega (arith, l, p 0, e, z))
 
 -- a condition that is not met, with none of the later ones
 pub refuse-none : (met : Bool) (number later : ℕ) → 0 < number → refuse met number later ≡ 0 → (met ≡ false) × (later ≡ 0)
 refuse-none true number later h e = absurd (omega arith)
 refuse-none false number later h e = (refl, e)
 
--- the sizes of a plate that none of 1, 2 and 3 refuses
-pub record Taken (k w h plate : ℕ) : Type 0 where
+-- ---- the conditions that several operations share
+
+-- the plate that none of 1, 2 and 3 refuses
+pub record Taken (k w h : ℕ) (f : List ℕ) : Type 0 where
   pub kind : connectivityFits k ≡ true
   pub grid : gridFits w h ≡ true
-  pub long : plate ≡ w * h
+  pub long : length f ≡ w * h
 
-module _ (k w h plate : ℕ) where
-  -- none of the three is met, nor a later condition
-  pub plate-none : (later : ℕ) → plateRefusal k w h plate later ≡ 0 → Taken k w h plate × (later ≡ 0)
+module _ (k w h : ℕ) (f : List ℕ) where
+  pub plate-chain : Chain (plateRefusal k w h f)
+  plate-chain =
+      chained (one (not (connectivityFits k)) 1 (omega arith))
+      (chained (one (not (gridFits w h)) 2 (omega arith)) (one (not (eqb (length f) (w * h))) 3 (omega arith)))
+
+  pub plate-none : (later : ℕ) → plateRefusal k w h f later ≡ 0 → Taken k w h f × (later ≡ 0)
   plate-none later e =
-      let later₃ : ℕ = refuse (not (eqb plate (w * h))) 3 later in
-      let later₂ : ℕ = refuse (not (gridFits w h)) 2 later₃ in
-      let a = refuse-none (not (connectivityFits k)) 1 later₂ (omega arith) e in
-      let b = refuse-none (not (gridFits w h)) 2 later₃ (omega arith) (a .1) in
-      let c = refuse-none (not (eqb plate (w * h))) 3 later (omega arith) (b .1) in (
+      let (kind, e₁) = refuse-none (not (connectivityFits k)) 1 _ (omega arith) e in
+      let (grid, e₂) = refuse-none (not (gridFits w h)) 2 _ (omega arith) e₁ in
+      let (long, e₃) = refuse-none (not (eqb (length f) (w * h))) 3 later (omega arith) e₂ in (
         record {
-          kind = not-false (connectivityFits k) (a .0);
-          grid = not-false (gridFits w h) (b .0);
-          long = eqb-true plate (w * h) (not-false (eqb plate (w * h)) (c .0));
+          kind = not-false (connectivityFits k) kind;
+          grid = not-false (gridFits w h) grid;
+          long = eqb-true (length f) (w * h) (not-false (eqb (length f) (w * h)) long);
         },
-        c .1,
+        e₃,
       )
 
-  pub plate-taken : plateRefusal k w h plate 0 ≡ 0 → Taken k w h plate
-  plate-taken e = plate-none 0 e .0
+  -- r was found to be the refusal by the three
+  pub plate-taken : {r : ℕ} → r ≡ plateRefusal k w h f 0 → r ≡ 0 → Taken k w h f
+  plate-taken e z = plate-none 0 (sym e ∙ z) .0
 
-  -- where none of the three is met the later conditions decide
-  pub plate-later : (later : ℕ) → Taken k w h plate → plateRefusal k w h plate later ≡ later
-  plate-later later t = rw (t .kind, t .grid, eq-eqb plate (w * h) (t .long))
+-- where none of the three is met the conditions on the pixels decide
+pub plate-later : {k w h : ℕ} {f : List ℕ} → Taken k w h f → (later : ℕ → ℕ) → plateRefusal k w h f (later (w * h)) ≡ later (length f)
+plate-later {k} {w} {h} {f} t later = rw (t .kind, t .grid, t .long, eq-eqb (w * h) (w * h) refl)
 
-  -- where one of the three is met the later conditions do not matter
-  pub plate-first : (later : ℕ) → (plateRefusal k w h plate 0 ≡ 0 → ⊥) → plateRefusal k w h plate later ≡ plateRefusal k w h plate 0
-  plate-first later e = go (connectivityFits k) (gridFits w h) (eqb plate (w * h)) e
-    where
-      chain : Bool → Bool → Bool → ℕ → ℕ
-      chain a b c x = refuse (not a) 1 (refuse (not b) 2 (refuse (not c) 3 x))
-
-      go : (a b c : Bool) → (chain a b c 0 ≡ 0 → ⊥) → chain a b c later ≡ chain a b c 0
-      go false b c e = refl
-      go true false c e = refl
-      go true true false e = refl
-      go true true true e = absurd (e refl)
-
-  -- the same of a number r that was found to be the refusal by the three
-  module _ {r : ℕ} (e : r ≡ plateRefusal k w h plate 0) where
-    pub decided : (later : ℕ) → (r ≡ 0 → ⊥) → r ≡ plateRefusal k w h plate later
-    decided later x = e ∙ sym (plate-first later (λ y. x (e ∙ y)))
-
-    pub passed : r ≡ 0 → Taken k w h plate
-    passed x = plate-taken (sym e ∙ x)
-
--- a plate that is taken has few pixels
-pub taken-few : {k w h plate : ℕ} → Taken k w h plate → plate ≤ maxPixels
+-- and the pixels are few
+pub taken-few : {k w h : ℕ} {f : List ℕ} → Taken k w h f → length f ≤ maxPixels
 taken-few {k} {w} {h} t = omega (arith, t .long, grid-sizes w h (t .grid) .few-pixels)
+
+pub limit-none : (pixels limit later : ℕ) → limitRefusal pixels limit later ≡ 0 → ((1 ≤ limit) × (limit ≤ pixels)) × (later ≡ 0)
+limit-none pixels limit later e =
+    let fits : Bool = leb 1 limit && leb limit pixels in
+    let a = refuse-none (not fits) 4 later (omega arith) e in
+    let t : T fits = passes (not-false fits (a .0)) in
+    ((leb→le 1 limit (search tests), leb→le limit pixels (search tests)), a .1)
+
+pub out-none : (needed out later : ℕ) → outRefusal needed out later ≡ 0 → (needed ≤ out) × (later ≡ 0)
+out-none needed out later e = let a = refuse-none (ltb out needed) 5 later (omega arith) e in (ltb-false out needed (a .0), a .1)
+
+-- and where it is not 0 it is 5
+pub out-met : (needed out : ℕ) → (outRefusal needed out 0 ≡ 0 → ⊥) → outRefusal needed out 0 ≡ 5
+out-met needed out x = go (ltb out needed) x
+  where
+    go : (met : Bool) → (refuse met 5 0 ≡ 0 → ⊥) → refuse met 5 0 ≡ 5
+    go true x = refl
+    go false x = absurd (x refl)
+
+pub tables-none : (pixels counts losses later : ℕ) → tablesRefusal pixels counts losses later ≡ 0
+    → ((pixels - 1 ≤ counts) × (pixels - 1 ≤ losses)) × (later ≡ 0)
+tables-none pixels counts losses later e =
+    let a = out-none (pixels - 1) counts (outRefusal (pixels - 1) losses later) e in
+    let b = out-none (pixels - 1) losses later (a .1) in
+    ((a .0, b .0), b .1)
+
+pub work-none : (pixels work later : ℕ) → workRefusal pixels work later ≡ 0 → (8 * pixels ≤ work) × (later ≡ 0)
+work-none pixels work later e =
+    let a = refuse-none (ltb work (8 * pixels)) 6 later (omega arith) e in (ltb-false work (8 * pixels) (a .0), a .1)
+
+pub out-chain : (needed out : ℕ) → Chain (outRefusal needed out)
+out-chain needed out = one (ltb out needed) 5 (omega arith)
+
+pub cut-chain : (pixels limit out : ℕ) → Chain (λ later. limitRefusal pixels limit (outRefusal pixels out later))
+cut-chain pixels limit out = chained (one (not (leb 1 limit && leb limit pixels)) 4 (omega arith)) (out-chain pixels out)
+
+pub tables-chain : (pixels counts losses : ℕ) → Chain (tablesRefusal pixels counts losses)
+tables-chain pixels counts losses = chained (out-chain (pixels - 1) counts) (out-chain (pixels - 1) losses)
+
+pub work-chain : (pixels work : ℕ) → Chain (workRefusal pixels work)
+work-chain pixels work = one (ltb work (8 * pixels)) 6 (omega arith)
 
 -- ---- a plate, a limit and an output of as many pixels
 
--- the sizes that are not refused
-pub record Filterable (k w h limit plate out work : ℕ) : Type 0 where
-  pub taken : Taken k w h plate
+-- what is not refused
+pub record Filterable (k w h limit : ℕ) (f : List ℕ) (out work : ℕ) : Type 0 where
+  pub taken : Taken k w h f
   pub limit-low : 1 ≤ limit
   pub limit-high : limit ≤ w * h
   pub room : w * h ≤ out
   pub space : 8 * (w * h) ≤ work
 
-pub filter-none : (k w h limit plate out work : ℕ) → filterRefusal k w h limit plate out work ≡ 0 → Filterable k w h limit plate out work
+pub filter-none : (k w h limit : ℕ) (f : List ℕ) (out work : ℕ) → filterRefusal k w h limit f out work ≡ 0 → Filterable k w h limit f out work
 unfolding filterRefusal
-filter-none k w h limit plate out work e =
-    let later₆ : ℕ = workRefusal w h work 0 in
-    let later₅ : ℕ = outRefusal (w * h) out later₆ in
-    let later₄ : ℕ = limitRefusal w h limit later₅ in
-    let fits : Bool = leb 1 limit && leb limit (w * h) in
-    let a = plate-none k w h plate later₄ e in
-    let b = refuse-none (not fits) 4 later₅ (omega arith) (a .1) in
-    let c = refuse-none (ltb out (w * h)) 5 later₆ (omega arith) (b .1) in
-    let d = refuse-none (ltb work (8 * (w * h))) 6 0 (omega arith) (c .1) in
-    let t : T fits = passes (not-false fits (b .0)) in
-    record {
-      taken = a .0;
-      limit-low = leb→le 1 limit (search tests);
-      limit-high = leb→le limit (w * h) (search tests);
-      room = ltb-false out (w * h) (c .0);
-      space = ltb-false work (8 * (w * h)) (d .0);
-    }
-
--- the conditions after 3, on a plate that is taken; its length is the pixels
-pub filter-later : {k w h plate : ℕ} (limit out work : ℕ) → Taken k w h plate
-    → filterRefusal k w h limit plate out work
-    ≡ refuse (not (leb 1 limit && leb limit plate)) 4 (outRefusal plate out (refuse (ltb work (8 * plate)) 6 0))
-unfolding filterRefusal
-filter-later {k} {w} {h} {plate} limit out work t =
-    plate-later k w h plate (limitRefusal w h limit (outRefusal (w * h) out (workRefusal w h work 0))) t ∙ rw (t .long)
+filter-none k w h limit f out work e =
+    let (taken, e₁) = plate-none k w h f _ e in
+    let (limited, e₂) = limit-none (w * h) limit _ e₁ in
+    let (room, e₃) = out-none (w * h) out _ e₂ in
+    record { taken = taken; limit-low = limited .0; limit-high = limited .1; room = room; space = work-none (w * h) work 0 e₃ .0 }
 
 -- ---- cleaning
 
@@ -119,73 +151,60 @@ side-known side e = elim (either-cases (eqb side lightSide) (eqb side darkSide) 
   | inr t ↦ inr (eqb→eq side darkSide t)
 ]
 
--- the side and the sizes that are not refused
-pub record Cleanable (side k w h limit plate out work : ℕ) : Type 0 where
+-- what is not refused
+pub record Cleanable (side k w h limit : ℕ) (f : List ℕ) (out work : ℕ) : Type 0 where
   pub side-is : (side ≡ lightSide) ⊎ (side ≡ darkSide)
-  pub sizes : Filterable k w h limit plate out work
+  pub sizes : Filterable k w h limit f out work
 
-pub clean-none : (side k w h limit plate out work : ℕ) → cleanRefusal side k w h limit plate out work ≡ 0 → Cleanable side k w h limit plate out work
+pub clean-none : (side k w h limit : ℕ) (f : List ℕ) (out work : ℕ) → cleanRefusal side k w h limit f out work ≡ 0
+    → Cleanable side k w h limit f out work
 unfolding cleanRefusal
-clean-none side k w h limit plate out work e =
-    let a = refuse-none (not (sideFits side)) 26 (filterRefusal k w h limit plate out work) (omega arith) e in
-    record { side-is = side-known side (not-false (sideFits side) (a .0)); sizes = filter-none k w h limit plate out work (a .1) }
+clean-none side k w h limit f out work e =
+    let a = refuse-none (not (sideFits side)) 26 (filterRefusal k w h limit f out work) (omega arith) e in
+    record { side-is = side-known side (not-false (sideFits side) (a .0)); sizes = filter-none k w h limit f out work (a .1) }
 
 -- ---- marking maxima
 
-pub record Markable (k w h plate out work : ℕ) : Type 0 where
-  pub taken : Taken k w h plate
+pub record Markable (k w h : ℕ) (f : List ℕ) (out work : ℕ) : Type 0 where
+  pub taken : Taken k w h f
   pub room : w * h ≤ out
   pub space : 8 * (w * h) ≤ work
 
-pub maxima-none : (k w h plate out work : ℕ) → maximaRefusal k w h plate out work ≡ 0 → Markable k w h plate out work
+pub maxima-none : (k w h : ℕ) (f : List ℕ) (out work : ℕ) → maximaRefusal k w h f out work ≡ 0 → Markable k w h f out work
 unfolding maximaRefusal
-maxima-none k w h plate out work e =
-    let later₆ : ℕ = workRefusal w h work 0 in
-    let later₅ : ℕ = outRefusal (w * h) out later₆ in
-    let a = plate-none k w h plate later₅ e in
-    let c = refuse-none (ltb out (w * h)) 5 later₆ (omega arith) (a .1) in
-    let d = refuse-none (ltb work (8 * (w * h))) 6 0 (omega arith) (c .1) in
-    record { taken = a .0; room = ltb-false out (w * h) (c .0); space = ltb-false work (8 * (w * h)) (d .0) }
+maxima-none k w h f out work e =
+    let (taken, e₁) = plate-none k w h f _ e in
+    let (room, e₂) = out-none (w * h) out _ e₁ in
+    record { taken = taken; room = room; space = work-none (w * h) work 0 e₂ .0 }
 
 -- ---- the node list, writing a record
 
-pub record Listable (k w h plate work : ℕ) : Type 0 where
-  pub taken : Taken k w h plate
+pub record Listable (k w h : ℕ) (f : List ℕ) (work : ℕ) : Type 0 where
+  pub taken : Taken k w h f
   pub space : 8 * (w * h) ≤ work
 
-module _ (k w h plate work : ℕ) where
-  pub tree-none : plateRefusal k w h plate (workRefusal w h work 0) ≡ 0 → Listable k w h plate work
-  tree-none e =
-      let a = plate-none k w h plate (workRefusal w h work 0) e in
-      let d = refuse-none (ltb work (8 * (w * h))) 6 0 (omega arith) (a .1) in
-      record { taken = a .0; space = ltb-false work (8 * (w * h)) (d .0) }
+-- where none of 1, 2, 3 and 6 is met 5 decides
+pub tree-later : {k w h : ℕ} {f : List ℕ} {work : ℕ} → Listable k w h f work → (needed out : ℕ)
+    → treeRefusal k w h f needed out work ≡ outRefusal needed out 0
+unfolding treeRefusal
+tree-later {k} {w} {h} {f} {work} l needed out =
+    let t = l .taken in rw (t .kind, t .grid, eq-eqb (length f) (w * h) (t .long), le-ltb work (8 * (w * h)) (l .space))
 
-  -- then 5 decides
-  pub tree-later : (needed out : ℕ) → Listable k w h plate work → treeRefusal k w h plate needed out work ≡ outRefusal needed out 0
+-- r was found to be the refusal by 1, 2, 3 and 6
+module _ (k w h : ℕ) (f : List ℕ) (work : ℕ) {r : ℕ} (is : r ≡ plateRefusal k w h f (workRefusal (w * h) work 0)) where
+  pub tree-none : r ≡ 0 → Listable k w h f work
+  tree-none z =
+      let (taken, e) = plate-none k w h f (workRefusal (w * h) work 0) (sym is ∙ z) in
+      record { taken = taken; space = work-none (w * h) work 0 e .0 }
+
+  -- one of them stays
+  pub tree-first : (r ≡ 0 → ⊥) → (needed out : ℕ) → r ≡ treeRefusal k w h f needed out work
   unfolding treeRefusal
-  tree-later needed out l =
-      plate-later k w h plate (workRefusal w h work (outRefusal needed out 0)) (l .taken)
-      ∙ rw (le-ltb work (8 * (w * h)) (l .space))
-
-  -- a refusal by 1, 2, 3 or 6 stays
-  pub tree-first : (needed out : ℕ) → (plateRefusal k w h plate (workRefusal w h work 0) ≡ 0 → ⊥)
-      → treeRefusal k w h plate needed out work ≡ plateRefusal k w h plate (workRefusal w h work 0)
-  unfolding treeRefusal
-  tree-first needed out e = go (connectivityFits k) (gridFits w h) (eqb plate (w * h)) (ltb work (8 * (w * h))) e
-    where
-      chain : Bool → Bool → Bool → Bool → ℕ → ℕ
-      chain a b c d x = refuse (not a) 1 (refuse (not b) 2 (refuse (not c) 3 (refuse d 6 x)))
-
-      go : (a b c d : Bool) → (chain a b c d 0 ≡ 0 → ⊥) → chain a b c d (outRefusal needed out 0) ≡ chain a b c d 0
-      go false b c d e = refl
-      go true false c d e = refl
-      go true true false d e = refl
-      go true true true true e = refl
-      go true true true false e = absurd (e refl)
+  tree-first x needed out = decided (chained (plate-chain k w h f) (work-chain (w * h) work)) is x (outRefusal needed out 0)
 
   -- 5 is none of these
-  pub tree-early : plateRefusal k w h plate (workRefusal w h work 0) ≡ 5 → ⊥
-  tree-early e = go (connectivityFits k) (gridFits w h) (eqb plate (w * h)) (ltb work (8 * (w * h))) e
+  pub tree-early : r ≡ 5 → ⊥
+  tree-early e = go (connectivityFits k) (gridFits w h) (eqb (length f) (w * h)) (ltb work (8 * (w * h))) (sym is ∙ e)
     where
       go : (a b c d : Bool) → refuse (not a) 1 (refuse (not b) 2 (refuse (not c) 3 (refuse d 6 0))) ≡ 5 → ⊥
       go false b c d e = omega arith

@@ -1,11 +1,12 @@
-// The refusals that go by sizes alone: those of a plate, and those of the operations on one.
+// The conditions that several operations share, and the refusals of the operations on plates: the first condition that is met, else 0.
 ghost use mathlib.Core.Path.{_≡_};
 ghost use mathlib.Core.Bool.{_&&_};
-ghost use Prim.Native.Nat.{_*_, _≤_};
-ghost use lib.Dec.{leb, ltb};
+ghost use Prim.Native.Nat.{_*_};
+ghost use lib.Dec.{leb};
 ghost use Rattle.meaning.specs.Plate.{gridFits, connectivityFits, maxExtent};
 ghost use Rattle.meaning.specs.Opening.{sideFits};
-ghost use Rattle.meaning.specs.Answers.{refuse, plateRefusal, workRefusal, outRefusal, filterRefusal, cleanRefusal, maximaRefusal};
+ghost use Rattle.meaning.specs.Answers.{plateRefusal, limitRefusal, outRefusal, tablesRefusal, workRefusal};
+ghost use Rattle.meaning.specs.Answers.{filterRefusal, cleanRefusal, maximaRefusal};
 
 // The sides on which a plate is cleaned.
 pub const LIGHT: u32 = 1;
@@ -45,9 +46,16 @@ pub fn grid_fits(width: u32, height: u32) -> bool
     false
 }
 
-// The first of the refusals 1, 2 and 3 that applies, else 0.
-fn plate_refusal(connectivity: u32, width: u32, height: u32, length: usize) -> u32
-    ensures { λ r. ⌜ r ≡ plateRefusal connectivity width height length 0 ⌝ }
+// Is a limit from 1 to the pixels?
+fn limit_fits(limit: u32, pixels: usize) -> bool
+    ensures { λ r. ⌜ r ≡ (leb 1 limit && leb limit pixels) ⌝ }
+{
+    1 <= limit && limit as usize <= pixels
+}
+
+// 1, 2 and 3 of a plate.
+pub fn plate_refusal(connectivity: u32, width: u32, height: u32, image: &[u8]) -> u32
+    ensures { λ r. ⌜ r ≡ plateRefusal connectivity width height (now (image .entry)) 0 ⌝ }
 {
     if !connectivity_fits(connectivity) {
         return 1;
@@ -55,98 +63,128 @@ fn plate_refusal(connectivity: u32, width: u32, height: u32, length: usize) -> u
     if !grid_fits(width, height) {
         return 2;
     }
-    if length != (width * height) as usize {
+    if image.len() != (width * height) as usize {
         return 3;
     }
     0
 }
 
-// The refusals 5 and 6 of an operation with one output for each pixel, else 0.
-fn space_refusal(pixels: usize, out: usize, work: usize) -> u32
-    requires { ⌜ pixels ≤ 16777216 ⌝ }
-    ensures { λ r. ⌜ r ≡ outRefusal pixels out (refuse (ltb work (8 * pixels)) 6 0) ⌝ }
+// 5 of an output with so many places.
+pub fn out_refusal(needed: usize, places: usize) -> u32
+    ensures { λ r. ⌜ r ≡ outRefusal needed places 0 ⌝ }
 {
-    if out < pixels {
+    if places < needed {
         return 5;
     }
-    if work < 8 * pixels {
+    0
+}
+
+// 4 of a limit, and 5 of an output for the pixels.
+pub fn cut_refusal(limit: u32, pixels: usize, places: usize) -> u32
+    ensures { λ r. ⌜ r ≡ limitRefusal pixels limit (outRefusal pixels places 0) ⌝ }
+{
+    if !limit_fits(limit, pixels) {
+        return 4;
+    }
+    out_refusal(pixels, places)
+}
+
+// 5 of the two tables of the size list.
+pub fn tables_refusal(pixels: usize, counts: usize, losses: usize) -> u32
+    ensures { λ r. ⌜ r ≡ tablesRefusal pixels counts losses 0 ⌝ }
+{
+    if pixels == 0 {
+        return 0;
+    }
+    let needed = pixels - 1;
+    let refusal = out_refusal(needed, counts);
+    if refusal != 0 {
+        return refusal;
+    }
+    out_refusal(needed, losses)
+}
+
+// 6 of a work space.
+pub fn work_refusal(pixels: usize, work: usize) -> u32
+    ensures { λ r. ⌜ r ≡ workRefusal pixels work 0 ⌝ }
+{
+    if work / 8 < pixels {
         return 6;
     }
     0
 }
 
-// The refusal of an operation with a plate, a limit and an output of as many pixels, by the sizes.
-pub fn filter_refusal(
+// The refusal of an operation with a plate, a limit and an output of as many pixels.
+fn filter_refusal(
     connectivity: u32,
     width: u32,
     height: u32,
     limit: u32,
-    plate: usize,
+    image: &[u8],
     out: usize,
     work: usize,
 ) -> u32
-    ensures { λ r. ⌜ r ≡ filterRefusal connectivity width height limit plate out work ⌝ }
+    ensures { λ r. ⌜ r ≡ filterRefusal connectivity width height limit (now (image .entry)) out work ⌝ }
 {
-    let refusal = plate_refusal(connectivity, width, height, plate);
+    let refusal = plate_refusal(connectivity, width, height, image);
     if refusal != 0 {
         return refusal;
     }
-    if limit < 1 {
-        return 4;
+    let further = cut_refusal(limit, image.len(), out);
+    if further != 0 {
+        return further;
     }
-    if plate < limit as usize {
-        return 4;
-    }
-    space_refusal(plate, out, work)
+    work_refusal(image.len(), work)
 }
 
-// The refusal of cleaning, by the side and the sizes.
+// The refusal of cleaning.
 pub fn clean_refusal(
     side: u32,
     connectivity: u32,
     width: u32,
     height: u32,
     limit: u32,
-    plate: usize,
+    image: &[u8],
     out: usize,
     work: usize,
 ) -> u32
-    ensures { λ r. ⌜ r ≡ cleanRefusal side connectivity width height limit plate out work ⌝ }
+    ensures { λ r. ⌜ r ≡ cleanRefusal side connectivity width height limit (now (image .entry)) out work ⌝ }
 {
     if !side_fits(side) {
         return 26;
     }
-    filter_refusal(connectivity, width, height, limit, plate, out, work)
+    filter_refusal(connectivity, width, height, limit, image, out, work)
 }
 
-// The refusal of marking maxima, by the sizes.
+// The refusal of marking maxima.
 pub fn maxima_refusal(
     connectivity: u32,
     width: u32,
     height: u32,
-    plate: usize,
+    image: &[u8],
     out: usize,
     work: usize,
 ) -> u32
-    ensures { λ r. ⌜ r ≡ maximaRefusal connectivity width height plate out work ⌝ }
+    ensures { λ r. ⌜ r ≡ maximaRefusal connectivity width height (now (image .entry)) out work ⌝ }
 {
-    let refusal = plate_refusal(connectivity, width, height, plate);
+    let refusal = plate_refusal(connectivity, width, height, image);
     if refusal != 0 {
         return refusal;
     }
-    space_refusal(plate, out, work)
+    let further = out_refusal(image.len(), out);
+    if further != 0 {
+        return further;
+    }
+    work_refusal(image.len(), work)
 }
 
-// The refusals 1, 2, 3 and 6 of the node list and of writing a record, which precede any work, by the sizes; else 0.
-pub fn tree_refusal(connectivity: u32, width: u32, height: u32, plate: usize, work: usize) -> u32
-    ensures { λ r. ⌜ r ≡ plateRefusal connectivity width height plate (workRefusal width height work 0) ⌝ }
+// 1, 2, 3 and 6 of the node list and of writing a record, which precede any work.
+pub fn tree_refusal(connectivity: u32, width: u32, height: u32, image: &[u8], work: usize) -> u32
+    ensures { λ r. ⌜ r ≡ plateRefusal connectivity width height (now (image .entry)) (workRefusal (width * height) work 0) ⌝ }
 {
-    let refusal = plate_refusal(connectivity, width, height, plate);
+    let refusal = plate_refusal(connectivity, width, height, image);
     if refusal != 0 {
         return refusal;
     }
-    if work < 8 * plate {
-        return 6;
-    }
-    0
+    work_refusal(image.len(), work)
 }

@@ -13,7 +13,7 @@ use Rattle.plate_greys.specs.Tree.{PlateTree}
 
 -- 1, 2, 3, 6, then 5 where there are fewer places than nodes
 unfoldable pub nodeListRefusal : ℕ → ℕ → ℕ → List ℕ → ℕ → ℕ → ℕ
-nodeListRefusal k w h f places work = treeRefusal k w h (length f) (length (nodesOf k w f)) places work
+nodeListRefusal k w h f places work = treeRefusal k w h f (length (nodesOf k w f)) places work
 
 -- the number of nodes; 0 on a refusal
 abbrev pub nodeCount : ℕ → ℕ → List ℕ → ℕ → ℕ

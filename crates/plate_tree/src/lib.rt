@@ -56,14 +56,15 @@ pub fn start_list(
         (now (work .entry)) (now (work .exit)) (r .refusal) (r .count) ⌝ }
 {
     let n = image.len();
-    let refusal = plate_refusals::tree_refusal(connectivity, width, height, n, work.len());
+    let refusal = plate_refusals::tree_refusal(connectivity, width, height, image, work.len());
     if refusal != 0 {
         return refused(refusal);
     }
     let count = plate_tree(image, false, width, height, connectivity, work);
-    if places < count {
+    let short = plate_refusals::out_refusal(count, places);
+    if short != 0 {
         work_columns::clear(work, n);
-        return refused(5);
+        return refused(short);
     }
     NodeList {
         refusal: 0,

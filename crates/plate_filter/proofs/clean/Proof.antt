@@ -20,10 +20,10 @@ returns c = answered-refused (c .before .clean-refusal .ensures) (c .if1 .taken)
 -- what the sizes say, where nothing is refused
 sized : (c : tie.Else1)
     → let s = c .before .before .before .before .before .args in
-    Filterable (s .connectivity) (s .width) (s .height) (s .limit) (length (now (s .image))) (length (now (s .out))) (length (now (s .work)))
+    Filterable (s .connectivity) (s .width) (s .height) (s .limit) (now (s .image)) (length (now (s .out))) (length (now (s .work)))
 sized c =
     let s = c .before .before .before .before .before .args in
-    clean-none (s .side) (s .connectivity) (s .width) (s .height) (s .limit) (length (now (s .image))) (length (now (s .out))) (length (now (s .work)))
+    clean-none (s .side) (s .connectivity) (s .width) (s .height) (s .limit) (now (s .image)) (length (now (s .out))) (length (now (s .work)))
     (sym (c .before .clean-refusal .ensures) ∙ c .if1 .left) .sizes
 
 limit-fits : (c : tie.Else1) → let s = c .before .before .before .before .before .args in s .limit ≤ length (now (s .image))
@@ -31,9 +31,8 @@ limit-fits c = let z = sized c in omega (arith, z .limit-high, z .taken .long)
 
 plate-tree-requires : tie.Need-plate-tree-requires
 plate-tree-requires c κs =
-    let s = c .before .before .before .before .before .before .args in
     let z = sized (c .before) in
-    record { taken = plate-later (s .connectivity) (s .width) (s .height) (length (now (s .image))) 0 (z .taken); room = z .space }
+    record { taken = plate-later (z .taken) (λ _. 0); room = z .space }
 
 cut-values-requires : tie.Need-cut-values-requires
 cut-values-requires c κs = plate-tree-parents (c .before .before .before .plate-tree .ensures)

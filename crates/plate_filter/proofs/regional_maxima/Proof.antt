@@ -19,17 +19,16 @@ returns c = answered-refused (c .before .maxima-refusal .ensures) (c .if1 .taken
 -- what the sizes say, where nothing is refused
 sized : (c : tie.Else1)
     → let s = c .before .before .before .before .before .args in
-    Markable (s .connectivity) (s .width) (s .height) (length (now (s .image))) (length (now (s .out))) (length (now (s .work)))
+    Markable (s .connectivity) (s .width) (s .height) (now (s .image)) (length (now (s .out))) (length (now (s .work)))
 sized c =
     let s = c .before .before .before .before .before .args in
-    maxima-none (s .connectivity) (s .width) (s .height) (length (now (s .image))) (length (now (s .out))) (length (now (s .work)))
+    maxima-none (s .connectivity) (s .width) (s .height) (now (s .image)) (length (now (s .out))) (length (now (s .work)))
     (sym (c .before .maxima-refusal .ensures) ∙ c .if1 .left)
 
 plate-tree-requires : tie.Need-plate-tree-requires
 plate-tree-requires c κs =
-    let s = c .before .before .before .before .before .before .args in
     let z = sized (c .before) in
-    record { taken = plate-later (s .connectivity) (s .width) (s .height) (length (now (s .image))) 0 (z .taken); room = z .space }
+    record { taken = plate-later (z .taken) (λ _. 0); room = z .space }
 
 mark-leaves-requires : tie.Need-mark-leaves-requires
 mark-leaves-requires c κs = plate-tree-parents (c .before .before .before .plate-tree .ensures)

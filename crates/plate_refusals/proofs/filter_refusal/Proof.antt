@@ -1,55 +1,64 @@
 -- `plate_refusals::filter_refusal` meets its contract.
-use Prim.Native.Nat.{_*_}
+use mathlib.Core.Path.{sym, _∙_}
+use Prim.Native.Nat.{ℕ, _*_}
 use borrow.Author.Needs.{needs}
-use borrow.Author.Tests.{le-leb, lt-leb}
+use denote.Ref.{now}
+use lib.ListN.{length}
+use Rattle.meaning.specs.Answers.{filterRefusal, limitRefusal, outRefusal, workRefusal}
 use Rattle.plate_refusals.proofs.filter_refusal.Statement.{statement}
 use Rattle.plate_refusals.proofs.filter_refusal.Tie as tie
-use Rattle.meaning.specs.Answers.{filterRefusal, limitRefusal, outRefusal, workRefusal}
-use Rattle.plate_refusals.proofs.Refusals.{Taken, filter-later, decided, passed, taken-few}
+use Rattle.plate_refusals.proofs.Refusals.{Taken, cut-chain, decided, passed, plate-chain, plate-later, plate-taken}
+
+-- the conditions after 3, on the pixels
+abbrev space : tie.Start → ℕ → ℕ
+space c n = workRefusal n (c .args .work) 0
+
+abbrev further : tie.Start → ℕ → ℕ
+further c n = let later = space c n in limitRefusal n (c .args .limit) (outRefusal n (c .args .out) later)
+
+abbrev start : tie.After-plate-refusal → tie.Start
+start c = c .before .before
 
 plate-refusal-requires : tie.Need-plate-refusal-requires
 plate-refusal-requires c κs = search needs
 
-taken : (c : tie.Else1) → let s = c .before .before .args in Taken (s .connectivity) (s .width) (s .height) (s .plate)
+taken : (c : tie.Else1) → let s = start (c .before) .args in Taken (s .connectivity) (s .width) (s .height) (now (s .image))
 taken c =
-    let s = c .before .before .args in
-    passed (s .connectivity) (s .width) (s .height) (s .plate) (c .before .plate-refusal .ensures) (c .if1 .left)
+    let s = start (c .before) .args in
+    plate-taken (s .connectivity) (s .width) (s .height) (now (s .image)) (c .before .plate-refusal .ensures) (c .if1 .left)
 
 returns : tie.Need-returns
 unfolding filterRefusal
 returns c =
-    let s = c .before .before .args in
-    decided (s .connectivity) (s .width) (s .height) (s .plate) (c .before .plate-refusal .ensures)
-    (limitRefusal (s .width) (s .height) (s .limit) (outRefusal (s .width * s .height) (s .out) (workRefusal (s .width) (s .height) (s .work) 0)))
-    (c .if1 .taken)
+    let t = c .before in
+    let s = start t .args in
+    decided (plate-chain (s .connectivity) (s .width) (s .height) (now (s .image))) (t .plate-refusal .ensures) (c .if1 .taken)
+    (further (start t) (s .width * s .height))
+
+cut-refusal-requires : tie.Need-cut-refusal-requires
+cut-refusal-requires c κs = search needs
 
 returns-2 : tie.Need-returns-2
+unfolding filterRefusal
 returns-2 c =
-    let s = c .before .before .before .args in
-    rw (filter-later (s .limit) (s .out) (s .work) (taken (c .before)), lt-leb 1 (s .limit) (c .if2 .taken))
+    let e = c .before .before in
+    let s = start (e .before) .args in
+    decided (cut-chain (length (now (s .image))) (s .limit) (s .out)) (c .before .cut-refusal .ensures) (c .if2 .taken) (space (start (e .before)) (length (now (s .image))))
+    ∙ sym (plate-later (taken e) (further (start (e .before))))
+
+work-refusal-requires : tie.Need-work-refusal-requires
+work-refusal-requires c κs = search needs
 
 returns-3 : tie.Need-returns-3
+unfolding filterRefusal
 returns-3 c =
-    let s = c .before .before .before .before .args in
-    rw (
-      filter-later (s .limit) (s .out) (s .work) (taken (c .before .before)),
-      le-leb 1 (s .limit) (c .before .if2 .left),
-      lt-leb (s .limit) (s .plate) (c .if3 .taken),
-    )
-
-space-refusal-requires : tie.Need-space-refusal-requires
-space-refusal-requires c κs = taken-few (taken (c .before .before))
-
-returns-4 : tie.Need-returns-4
-returns-4 c =
-    let s = c .before .before .before .before .before .args in
-    rw (
-      filter-later (s .limit) (s .out) (s .work) (taken (c .before .before .before)),
-      le-leb 1 (s .limit) (c .before .before .if2 .left),
-      le-leb (s .limit) (s .plate) (c .before .if3 .left),
-    ) (c .space-refusal .ensures)
+    let d = c .before in
+    let e = d .before .before in
+    let s = start (e .before) .args in
+    c .work-refusal .ensures
+    ∙ sym (passed (cut-chain (length (now (s .image))) (s .limit) (s .out)) (d .before .cut-refusal .ensures) (d .if2 .left) (space (start (e .before)) (length (now (s .image)))))
+    ∙ sym (plate-later (taken e) (further (start (e .before))))
 
 pub filter-refusal-spec : {M : Type 1} → statement M
 filter-refusal-spec =
-    tie.close
-    (tie.spec plate-refusal-requires returns returns-2 returns-3 space-refusal-requires returns-4)
+    tie.close (tie.spec plate-refusal-requires returns cut-refusal-requires returns-2 work-refusal-requires returns-3)

@@ -24,6 +24,9 @@ plate-tree-requires c κs =
     started-ready (s .connectivity) (s .width) (s .height) (now (s .image)) (now (s .work)) (s .places)
     (c .before .before .tree-refusal .ensures) (c .before .if1 .left)
 
+out-refusal-requires : tie.Need-out-refusal-requires
+out-refusal-requires c κs = search needs
+
 clear-requires : tie.Need-clear-requires
 clear-requires c κs = search needs
 
@@ -36,26 +39,29 @@ same-length c = search needs
 returns-2 : tie.Need-returns-2
 returns-2 c =
     let t = c .before .before .before .before .before in
-    let p = t .before .before .before in
+    let q = t .before in
+    let p = q .before .before .before in
     let e = p .before .before in
     let s = e .before .before .before .before .args in
     rw (c .refused2 .ensures .0, c .refused2 .ensures .1)
     (started-short (s .connectivity) (s .width) (s .height) (now (s .image)) (now (s .work)) (s .places)
-    (e .before .tree-refusal .ensures) (e .if1 .left) (p .plate-tree .ensures) (t .if2 .taken) (c .before .before .before .clear .ensures))
+    (e .before .tree-refusal .ensures) (e .if1 .left) (p .plate-tree .ensures)
+    (q .out-refusal .ensures) (t .if2 .taken) (c .before .before .before .clear .ensures))
 
-cast-t17 : tie.Need-cast-t17
-cast-t17 c = search needs
+cast-t18 : tie.Need-cast-t18
+cast-t18 c = search needs
 
 same-length-2 : tie.Need-same-length-2
 same-length-2 c = search needs
 
 returns-3 : tie.Need-returns-3
 returns-3 c =
-    let p = c .before .before .before in
+    let q = c .before in
+    let p = q .before .before .before in
     let e = p .before .before in
     let s = e .before .before .before .before .args in
     started-done (s .connectivity) (s .width) (s .height) (now (s .image)) (now (s .work)) (s .places)
-    (e .before .tree-refusal .ensures) (e .if1 .left) (p .plate-tree .ensures) (c .if2 .left)
+    (e .before .tree-refusal .ensures) (e .if1 .left) (p .plate-tree .ensures) (q .out-refusal .ensures) (c .if2 .left)
 
 pub start-list-spec : {M : Type 1} → statement M
 start-list-spec =
@@ -65,10 +71,11 @@ start-list-spec =
     refused-requires
     returns
     plate-tree-requires
+    out-refusal-requires
     clear-requires
     refused-requires-2
     same-length
     returns-2
-    cast-t17
+    cast-t18
     same-length-2
     returns-3)

@@ -1,6 +1,6 @@
--- `record::limit_fits` meets its contract.
-use Rattle.record.proofs.limit_fits.Statement.{statement}
-use Rattle.record.proofs.limit_fits.Tie as tie
+-- `plate_refusals::limit_fits` meets its contract.
+use Rattle.plate_refusals.proofs.limit_fits.Statement.{statement}
+use Rattle.plate_refusals.proofs.limit_fits.Tie as tie
 use borrow.Author.Tests.{le-leb, lt-leb}
 
 returns : tie.Need-returns
