@@ -26,25 +26,25 @@ module _ (side limit : ℕ) {k w h : ℕ} {f out out′ work work′ : List ℕ}
   limit-fits = let s = cleanable .sizes in omega (arith, s .limit-high, s .taken .long)
 
 -- the answers of the two sides
-light-opens : (k w limit : ℕ) (f : List ℕ) → cleaned lightSide k w limit f ≡ opened k w limit f
+light-opens : (k w h limit : ℕ) (f : List ℕ) → cleaned lightSide k w h limit f ≡ opened k w h limit f
 unfolding cleaned
-light-opens k w limit f = refl
+light-opens k w h limit f = refl
 
-dark-closes : (k w limit : ℕ) (f : List ℕ) → cleaned darkSide k w limit f ≡ closed k w limit f
+dark-closes : (k w h limit : ℕ) (f : List ℕ) → cleaned darkSide k w h limit f ≡ closed k w h limit f
 unfolding cleaned
-dark-closes k w limit f = refl
+dark-closes k w h limit f = refl
 
 module _ (limit : ℕ) {k w h : ℕ} {f out out′ work work′ : List ℕ} {r : ℕ} where
   light-holds : Cleaned lightSide k w h limit f out out′ work work′ r → r ≡ 0 → HoldsOpened k w limit f out′
   light-holds a z t p l =
       let plate = a .accepted z in
-      rw (a .output, z, light-opens k w limit f, over-nth (opened k w limit f) out p (omega (arith, opened-length plate limit)))
+      rw (a .output, z, light-opens k w h limit f, over-nth (opened k w h limit f) out p (omega (arith, opened-length plate limit)))
       (opened-is-greatest plate limit t p (limit-fits lightSide limit a z) l)
 
   dark-holds : Cleaned darkSide k w h limit f out out′ work work′ r → r ≡ 0 → HoldsClosed k w limit f out′
   dark-holds a z t p l =
       let plate = a .accepted z in
-      rw (a .output, z, dark-closes k w limit f, over-nth (closed k w limit f) out p (omega (arith, closed-length plate limit)))
+      rw (a .output, z, dark-closes k w h limit f, over-nth (closed k w h limit f) out p (omega (arith, closed-length plate limit)))
       (closed-is-least plate limit t p (limit-fits darkSide limit a z) l)
 
   side-holds : (side : ℕ) → Cleaned side k w h limit f out out′ work work′ r → r ≡ 0 → (side ≡ lightSide) ⊎ (side ≡ darkSide)
@@ -61,16 +61,16 @@ module _ (limit : ℕ) {k w h : ℕ} {f out out′ work work′ lent lent′ spa
   alike x y = b .number ∙ rw (x, y, negative-length f) (sym (a .number))
 
   module _ (z : r ≡ 0) (z′ : r′ ≡ 0) where
-    light-plate : take (w * h) out′ ≡ opened k w limit f
+    light-plate : take (w * h) out′ ≡ opened k w h limit f
     light-plate =
         let plate = a .accepted z in
-        rw (a .output, z, light-opens k w limit f) (over-take (opened k w limit f) out (w * h) (opened-length plate limit ∙ plate .long))
+        rw (a .output, z, light-opens k w h limit f) (over-take (opened k w h limit f) out (w * h) (opened-length plate limit ∙ plate .long))
 
-    dark-plate : take (w * h) lent′ ≡ closed k w limit (negative f)
+    dark-plate : take (w * h) lent′ ≡ closed k w h limit (negative f)
     dark-plate =
         let plate = b .accepted z′ in
-        rw (b .output, z′, dark-closes k w limit (negative f))
-        (over-take (closed k w limit (negative f)) lent (w * h) (closed-length plate limit ∙ plate .long))
+        rw (b .output, z′, dark-closes k w h limit (negative f))
+        (over-take (closed k w h limit (negative f)) lent (w * h) (closed-length plate limit ∙ plate .long))
 
     each-other : Negatives (take (w * h) out′) (take (w * h) lent′)
     each-other =

@@ -1,19 +1,20 @@
 -- The theorem of demand 3.
-use mathlib.Core.Path.{_≡_, refl, ap, _∙_}
+use mathlib.Core.Path.{_≡_, refl, sym, ap, _∙_}
 use mathlib.Core.List.{List}
 use Prim.Native.Nat.{ℕ, suc, _-_, _*_, _≤_, _<_}
 use native.Mathlib.Nat.{mul-comm}
 use native.Mathlib.Omega.{arith}
 use borrow.Author.Tests.{le-ltb, le-leb, eq-eqb}
+use lib.Dec.{eqb}
 use lib.ListN.{length, take, drop, List·getD-append}
 use lib.Seq.{take-at}
 use Rattle.meaning.specs.Answers.{over, treeRefusal}
 use Rattle.meaning.specs.Cut.{countAt, counts, cut, cutAt, darkest, losses, lostAt, total}
-use Rattle.meaning.specs.Nodes.{areaOf, nodesOf}
+use Rattle.meaning.specs.Nodes.{areaOf, holds, nodesOf}
 use Rattle.meaning.specs.Opening.{atLeast, attribute, opened}
 use Rattle.meaning.specs.Plate.{Plate, grey, touch}
 use Rattle.meaning.specs.Record.{recordOf}
-use Rattle.meaning.specs.Sets.{nth, sum, table}
+use Rattle.meaning.specs.Sets.{area, nth, sum, table}
 use Rattle.theory_lists.proofs.Lists.{getD-table, length-table}
 use Rattle.theory_lists.proofs.Sums.{sum-cong}
 use Rattle.theorems.proofs.Theorems.{cut-equals-opened, losses-make-total, lost-makes-cut, opened-is-lightest, opened-large-maxima, opened-nowhere-lighter}
@@ -58,16 +59,16 @@ module _ {k w h : ℕ} {f : List ℕ} (pl : Plate k w h f) where
   pub cut-zero : (limit : ℕ) → 1 ≤ limit → limit ≤ w * h → (out : List ℕ) → w * h ≤ length out → cutRefusal (plate k w h f) limit (length out) ≡ 0
   cut-zero limit a b out c = rw (le-leb 1 limit a, le-leb limit (w * h) b, le-ltb (length out) (w * h) c)
 
-  pub cut-length : (limit : ℕ) → length (cut k w limit f) ≡ w * h
+  pub cut-length : (limit : ℕ) → length (cut k w h limit f) ≡ w * h
   unfolding cut
   cut-length limit =
-      length-table (length f) (cutAt (length f) (touch k w) (grey f) (nodesOf k w f) (atLeast (attribute (length f)) limit)) ∙ pl .long
+      length-table (length f) (cutAt (length f) (touch k w) (grey f) (nodesOf k w f) (atLeast (attribute w h) limit)) ∙ pl .long
 
   pub cut-plate-is : (limit : ℕ) → 1 ≤ limit → limit ≤ w * h → (out work : List ℕ) → w * h ≤ length out → 8 * (w * h) ≤ length work
-      → cutPlate w h bytes limit out work ≡ cut k w limit f
+      → cutPlate w h bytes limit out work ≡ cut k w h limit f
   unfolding cutPlate
   cut-plate-is limit a b out work c d =
-      rw (read-there pl (length work) d, cut-zero limit a b out c) (over-take (cut k w limit f) out (w * h) (cut-length limit))
+      rw (read-there pl (length work) d, cut-zero limit a b out c) (over-take (cut k w h limit f) out (w * h) (cut-length limit))
 
   cut-head-is : (limit : ℕ) → 1 ≤ limit → limit ≤ w * h → (out work : List ℕ) → w * h ≤ length out → 8 * (w * h) ≤ length work
       → cutHead bytes limit out work ≡ record { refusal = 0; width = w; height = h; connectivity = k }
@@ -78,7 +79,7 @@ module _ {k w h : ℕ} {f : List ℕ} (pl : Plate k w h f) where
       → CutClaim k w h f bytes limit out work
   cut-claim limit a b out work c d =
       let fits : limit ≤ length f = omega (arith, pl .long) in
-      let is : cutPlate w h bytes limit out work ≡ opened k w limit f = cut-plate-is limit a b out work c d ∙ cut-equals-opened pl limit fits in
+      let is : cutPlate w h bytes limit out work ≡ opened k w h limit f = cut-plate-is limit a b out work c d ∙ cut-equals-opened pl limit fits in
       record {
         accepted = cut-head-is limit a b out work c d;
         nowhere-lighter = rw is (opened-nowhere-lighter pl limit fits);
@@ -98,11 +99,11 @@ module _ {k w h : ℕ} {f : List ℕ} (pl : Plate k w h f) where
     unfolding sizeHead
     size-head-is = rw (read-there pl (length work) c, size-zero)
 
-    pub counts-are : sizeCounts bytes counts′ losses′ work ≡ over (counts k w f) counts′
+    pub counts-are : sizeCounts bytes counts′ losses′ work ≡ over (counts k w h f) counts′
     unfolding sizeCounts
     counts-are = rw (read-there pl (length work) c, size-zero)
 
-    pub losses-are : sizeLosses bytes counts′ losses′ work ≡ over (losses k w f) losses′
+    pub losses-are : sizeLosses bytes counts′ losses′ work ≡ over (losses k w h f) losses′
     unfolding sizeLosses
     losses-are = rw (read-there pl (length work) c, size-zero)
 
@@ -111,21 +112,21 @@ module _ {k w h : ℕ} {f : List ℕ} (pl : Plate k w h f) where
     place-low x l m = omega (arith, pl .long)
 
     count-nth : (x : ℕ) → 1 ≤ x → x < w * h
-        → nth (sizeCounts bytes counts′ losses′ work) (x - 1) ≡ countAt (length f) (touch k w) (grey f) (nodesOf k w f) (attribute (length f)) x
+        → nth (sizeCounts bytes counts′ losses′ work) (x - 1) ≡ countAt (length f) (touch k w) (grey f) (nodesOf k w f) (attribute w h) x
     unfolding counts
     count-nth x l m =
-        let g : ℕ → ℕ = λ (i : ℕ). countAt (length f) (touch k w) (grey f) (nodesOf k w f) (attribute (length f)) (suc i) in
+        let g : ℕ → ℕ = λ (i : ℕ). countAt (length f) (touch k w) (grey f) (nodesOf k w f) (attribute w h) (suc i) in
         let e : suc (x - 1) ≡ x = omega arith in
         ap (λ (t : List ℕ). nth t (x - 1)) counts-are
         ∙ over-nth (table (length f - 1) g) counts′ (x - 1) (omega (arith, length-table (length f - 1) g, place-low x l m))
         ∙ getD-table (length f - 1) g (x - 1) 0 (place-low x l m)
-        ∙ ap (countAt (length f) (touch k w) (grey f) (nodesOf k w f) (attribute (length f))) e
+        ∙ ap (countAt (length f) (touch k w) (grey f) (nodesOf k w f) (attribute w h)) e
 
     loss-nth : (i : ℕ) → i < w * h - 1
-        → nth (sizeLosses bytes counts′ losses′ work) i ≡ lostAt (length f) (touch k w) (grey f) (nodesOf k w f) (attribute (length f)) (suc i)
+        → nth (sizeLosses bytes counts′ losses′ work) i ≡ lostAt (length f) (touch k w) (grey f) (nodesOf k w f) (attribute w h) (suc i)
     unfolding losses
     loss-nth i l =
-        let g : ℕ → ℕ = λ (i : ℕ). lostAt (length f) (touch k w) (grey f) (nodesOf k w f) (attribute (length f)) (suc i) in
+        let g : ℕ → ℕ = λ (i : ℕ). lostAt (length f) (touch k w) (grey f) (nodesOf k w f) (attribute w h) (suc i) in
         let m : i < length f - 1 = omega (arith, pl .long) in
         ap (λ (t : List ℕ). nth t i) losses-are
         ∙ over-nth (table (length f - 1) g) losses′ i (omega (arith, length-table (length f - 1) g))
@@ -135,19 +136,22 @@ module _ {k w h : ℕ} {f : List ℕ} (pl : Plate k w h f) where
     unfolding countAt areaOf
     size-claim = record {
       accepted = size-head-is;
-      node-counts = count-nth;
+      node-counts = λ x l m.
+          count-nth x l m
+          ∙ ap (λ (n : ℕ). area (length (nodesOf k w f)) (λ (j : ℕ). eqb (area n (holds (length f) (touch k w) (grey f) (nodesOf k w f) j)) x))
+          (sym (pl .long));
       grey-lost = λ x l m.
           let e : suc (x - 1) ≡ x = omega arith in
           omega (
             arith,
             loss-nth (x - 1) (omega arith),
-            ap (lostAt (length f) (touch k w) (grey f) (nodesOf k w f) (attribute (length f))) e,
+            ap (lostAt (length f) (touch k w) (grey f) (nodesOf k w f) (attribute w h)) e,
             lost-makes-cut pl x (omega (arith, pl .long)),
             ap total (cut-plate-is x l (omega arith) plain work d c),
             ap total (cut-plate-is (suc x) (omega arith) (omega arith) plain work d c),
           );
       whole =
-          let g : ℕ → ℕ = λ (i : ℕ). lostAt (length f) (touch k w) (grey f) (nodesOf k w f) (attribute (length f)) (suc i) in
+          let g : ℕ → ℕ = λ (i : ℕ). lostAt (length f) (touch k w) (grey f) (nodesOf k w f) (attribute w h) (suc i) in
           omega (
             arith,
             sum-cong (w * h - 1) (nth (sizeLosses bytes counts′ losses′ work)) g loss-nth,

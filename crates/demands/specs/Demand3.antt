@@ -51,8 +51,8 @@ sizeLosses bytes counts losses work = lossesOut (readOf bytes (length work)) (le
 pub record CutClaim (k w h : ℕ) (f bytes : List ℕ) (limit : ℕ) (out work : List ℕ) : Type 0 where
   pub accepted : cutHead bytes limit out work ≡ record { refusal = 0; width = w; height = h; connectivity = k }
   pub nowhere-lighter : NowhereLighter (cutPlate w h bytes limit out work) f
-  pub large-maxima : LargeMaxima k w limit (cutPlate w h bytes limit out work)
-  pub lightest : (g : List ℕ) → NowhereLighter g f → LargeMaxima k w limit g → NowhereLighter g (cutPlate w h bytes limit out work)
+  pub large-maxima : LargeMaxima k w h limit (cutPlate w h bytes limit out work)
+  pub lightest : (g : List ℕ) → NowhereLighter g f → LargeMaxima k w h limit g → NowhereLighter g (cutPlate w h bytes limit out work)
 
 -- the size list: it is not refused; at each area it has the number of nodes, and the grey lost, which with the total of the cut at one more makes the
 -- total of the cut at that area; all losses and the darkest grey over every pixel make the plate's total. `plain` is an output for the cuts

@@ -34,11 +34,11 @@ unfolding encode
 groups-300 = refl
 
 -- its size list is what sizelist prints: 2 nodes of area 1 lose 100, 1 node of area 2 loses 40; the darkest grey is 10
-pub small-counts : counts 4 4 small ≡ 2 ∷ 1 ∷ 0 ∷ 0 ∷ 0 ∷ 0 ∷ 0 ∷ 0 ∷ 0 ∷ 0 ∷ 0 ∷ []
+pub small-counts : counts 4 4 3 small ≡ 2 ∷ 1 ∷ 0 ∷ 0 ∷ 0 ∷ 0 ∷ 0 ∷ 0 ∷ 0 ∷ 0 ∷ 0 ∷ []
 unfolding counts
 small-counts = refl
 
-pub small-losses : losses 4 4 small ≡ 100 ∷ 40 ∷ 0 ∷ 0 ∷ 0 ∷ 0 ∷ 0 ∷ 0 ∷ 0 ∷ 0 ∷ 0 ∷ []
+pub small-losses : losses 4 4 3 small ≡ 100 ∷ 40 ∷ 0 ∷ 0 ∷ 0 ∷ 0 ∷ 0 ∷ 0 ∷ 0 ∷ 0 ∷ 0 ∷ []
 unfolding losses
 small-losses = refl
 
@@ -50,7 +50,7 @@ pub small-marks : marks 4 4 small ≡ 0 ∷ 0 ∷ 0 ∷ 0 ∷ 0 ∷ 1 ∷ 0 ∷ 
 unfolding marks
 small-marks = refl
 
-pub small-cut : cut 4 4 2 small ≡ 10 ∷ 10 ∷ 10 ∷ 10 ∷ 10 ∷ 30 ∷ 30 ∷ 10 ∷ 10 ∷ 10 ∷ 10 ∷ 10 ∷ []
+pub small-cut : cut 4 4 3 2 small ≡ 10 ∷ 10 ∷ 10 ∷ 10 ∷ 10 ∷ 30 ∷ 30 ∷ 10 ∷ 10 ∷ 10 ∷ 10 ∷ 10 ∷ []
 unfolding cut
 small-cut = refl
 
@@ -76,7 +76,7 @@ unfolding neighbours
 corner-six = refl
 
 -- cleaned at limit 2, and its regional maxima marked, the plate with a pair on each diagonal differs with 4, 6 and 8
-pub diagonals-cleaned : cleaned lightSide 4 5 2 diagonals ∷ cleaned lightSide 6 5 2 diagonals ∷ cleaned lightSide 8 5 2 diagonals ∷ []
+pub diagonals-cleaned : cleaned lightSide 4 5 2 2 diagonals ∷ cleaned lightSide 6 5 2 2 diagonals ∷ cleaned lightSide 8 5 2 2 diagonals ∷ []
     ≡ (0 ∷ 0 ∷ 0 ∷ 0 ∷ 0 ∷ 0 ∷ 0 ∷ 0 ∷ 0 ∷ 0 ∷ [])
     ∷ (8 ∷ 0 ∷ 0 ∷ 0 ∷ 0 ∷ 0 ∷ 8 ∷ 0 ∷ 0 ∷ 0 ∷ [])
     ∷ (8 ∷ 0 ∷ 0 ∷ 0 ∷ 8 ∷ 0 ∷ 8 ∷ 0 ∷ 8 ∷ 0 ∷ [])
@@ -93,20 +93,20 @@ unfolding marks
 diagonals-marks = refl
 
 -- the dark side on the negative
-pub diagonals-dark : cleaned darkSide 6 5 2 (negative diagonals) ≡ negative (cleaned lightSide 6 5 2 diagonals)
+pub diagonals-dark : cleaned darkSide 6 5 2 2 (negative diagonals) ≡ negative (cleaned lightSide 6 5 2 2 diagonals)
 unfolding cleaned negative
 diagonals-dark = refl
 
 -- ---- the slips
 
 -- nothing wraps round an edge, with 4, 6 or 8
-pub no-wrap : opened 4 3 2 edges ∷ opened 6 3 2 edges ∷ opened 8 3 2 edges ∷ []
+pub no-wrap : opened 4 3 2 2 edges ∷ opened 6 3 2 2 edges ∷ opened 8 3 2 2 edges ∷ []
     ≡ (0 ∷ 0 ∷ 0 ∷ 0 ∷ 0 ∷ 0 ∷ []) ∷ (0 ∷ 0 ∷ 0 ∷ 0 ∷ 0 ∷ 0 ∷ []) ∷ (0 ∷ 0 ∷ 0 ∷ 0 ∷ 0 ∷ 0 ∷ []) ∷ []
 unfolding opened
 no-wrap = refl
 
 -- a maximum sinks as far as it must
-pub sinks-on : opened 4 5 3 steps ∷ opened 4 5 4 steps ∷ [] ≡ (10 ∷ 30 ∷ 30 ∷ 30 ∷ 10 ∷ []) ∷ (10 ∷ 10 ∷ 10 ∷ 10 ∷ 10 ∷ []) ∷ []
+pub sinks-on : opened 4 5 1 3 steps ∷ opened 4 5 1 4 steps ∷ [] ≡ (10 ∷ 30 ∷ 30 ∷ 30 ∷ 10 ∷ []) ∷ (10 ∷ 10 ∷ 10 ∷ 10 ∷ 10 ∷ []) ∷ []
 unfolding opened
 sinks-on = refl
 
@@ -121,7 +121,7 @@ whole zero = refl
 whole (suc n) = omega (arith, whole n)
 
 -- a patch of 65,536 pixels qualifies at the limit 65,536
-pub large-patch : atLeast (attribute 65536) 65536 (λ (q : ℕ). true) ≡ true
+pub large-patch : atLeast (attribute 256 256) 65536 (λ (q : ℕ). true) ≡ true
 large-patch = rw (whole 65536)
 
 -- ---- ink and refusals
@@ -163,6 +163,6 @@ unfolding cleanRefusal
 side-refusals = refl
 
 -- the dark side on the negative gives the negative of the light side
-pub light-and-dark : cleaned darkSide 4 4 2 (negative small) ≡ negative (cleaned lightSide 4 4 2 small)
+pub light-and-dark : cleaned darkSide 4 4 3 2 (negative small) ≡ negative (cleaned lightSide 4 4 3 2 small)
 unfolding cleaned negative
 light-and-dark = refl

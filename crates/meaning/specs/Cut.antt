@@ -31,9 +31,9 @@ module _ (n : ℕ) (near : ℕ → ℕ → Bool) (f : ℕ → ℕ) (xs : List �
 -- ---- a plate
 
 -- the cut of a plate's tree at a limit
-unfoldable pub cut : ℕ → ℕ → ℕ → List ℕ → List ℕ
+unfoldable pub cut : ℕ → ℕ → ℕ → ℕ → List ℕ → List ℕ
 unfolding cutAt table touch nodesOf area
-cut k w limit f = table (length f) (cutAt (length f) (touch k w) (grey f) (nodesOf k w f) (atLeast (attribute (length f)) limit))
+cut k w h limit f = table (length f) (cutAt (length f) (touch k w) (grey f) (nodesOf k w f) (atLeast (attribute w h) limit))
 
 -- a plate's total grey
 unfoldable pub total : List ℕ → ℕ
@@ -46,11 +46,11 @@ unfolding lowest
 darkest f = lowest (suc greatestGrey) (elem f)
 
 -- the size list: for each area from 1 to pixels - 1 the number of nodes of that area
-unfoldable pub counts : ℕ → ℕ → List ℕ → List ℕ
+unfoldable pub counts : ℕ → ℕ → ℕ → List ℕ → List ℕ
 unfolding countAt table touch nodesOf area
-counts k w f = table (length f - 1) (λ (i : ℕ). countAt (length f) (touch k w) (grey f) (nodesOf k w f) (attribute (length f)) (suc i))
+counts k w h f = table (length f - 1) (λ (i : ℕ). countAt (length f) (touch k w) (grey f) (nodesOf k w f) (attribute w h) (suc i))
 
 -- and the grey lost at that area
-unfoldable pub losses : ℕ → ℕ → List ℕ → List ℕ
+unfoldable pub losses : ℕ → ℕ → ℕ → List ℕ → List ℕ
 unfolding lostAt table touch nodesOf area
-losses k w f = table (length f - 1) (λ (i : ℕ). lostAt (length f) (touch k w) (grey f) (nodesOf k w f) (attribute (length f)) (suc i))
+losses k w h f = table (length f - 1) (λ (i : ℕ). lostAt (length f) (touch k w) (grey f) (nodesOf k w f) (attribute w h) (suc i))

@@ -21,7 +21,7 @@ pub record Case : Type 0 where
 
 unfoldable pub run : Job → List ℕ
 unfolding cleaned inkOf
-run (cleaning side k limit) = cleaned side k 4 limit small
+run (cleaning side k limit) = cleaned side k 4 3 limit small
 run (ink g) = inkOf g ∷ []
 
 abbrev case : Job → List ℕ → Case

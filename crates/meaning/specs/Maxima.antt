@@ -40,7 +40,7 @@ unfolding maximum table touch
 marks k w f = table (length f) (λ (p : ℕ). bit (maximum (length f) (touch k w) (grey f) p))
 
 -- every regional maximum of a plate has at least the limit's pixels
-abbrev pub LargeMaxima : ℕ → ℕ → ℕ → List ℕ → Type 0
-LargeMaxima k w limit g =
-    (p : ℕ) → p < length g → Maximum (length g) (touch k w) (grey g) p → limit ≤ attribute (length g)
-    (has (flatZone (length g) (touch k w) (grey g) p))
+abbrev pub LargeMaxima : ℕ → ℕ → ℕ → ℕ → List ℕ → Type 0
+LargeMaxima k w h limit g =
+    (p : ℕ) → p < length g → Maximum (length g) (touch k w) (grey g) p
+    → limit ≤ attribute w h (has (flatZone (length g) (touch k w) (grey g) p))

@@ -2,7 +2,7 @@
 -- "at least the limit's pixels". The theory holds for every increasing criterion (attribute openings).
 use mathlib.Core.Bool.{Bool, true, _||_}
 use mathlib.Core.List.{List}
-use Prim.Native.Nat.{ℕ, _≤_, _<_}
+use Prim.Native.Nat.{ℕ, _*_, _≤_, _<_}
 use lib.Dec.{T, eqb, leb}
 use lib.ListN.{length}
 use Rattle.meaning.specs.Sets.{Within, area, greatest, pick, table, has, elem, Distinct}
@@ -41,21 +41,21 @@ pub record Attribute (n : ℕ) (att : (ℕ → Bool) → ℕ) : Type 0 where
   pub positive : (s : ℕ → Bool) (q : ℕ) → q < n → T (s q) → 1 ≤ att s
   pub all : n ≤ att (λ (q : ℕ). true)
 
--- the one place that knows the qualifying attribute of a set of pixels: its area
-abbrev pub attribute : ℕ → (ℕ → Bool) → ℕ
-attribute n s = area n s
+-- the one place that knows the qualifying attribute of a set of pixels of a plate of width w and height h: its area
+abbrev pub attribute : (w h : ℕ) → (ℕ → Bool) → ℕ
+attribute w h s = area (w * h) s
 
 -- ---- the area opening and closing of a plate
 
 -- the opened value of each pixel
-unfoldable pub opened : ℕ → ℕ → ℕ → List ℕ → List ℕ
+unfoldable pub opened : ℕ → ℕ → ℕ → ℕ → List ℕ → List ℕ
 unfolding openedAt table touch area
-opened k w limit f = table (length f) (openedAt (length f) (touch k w) (atLeast (attribute (length f)) limit) (grey f))
+opened k w h limit f = table (length f) (openedAt (length f) (touch k w) (atLeast (attribute w h) limit) (grey f))
 
 -- the closed value is the greatest grey minus the opened value on the negative
-unfoldable pub closed : ℕ → ℕ → ℕ → List ℕ → List ℕ
+unfoldable pub closed : ℕ → ℕ → ℕ → ℕ → List ℕ → List ℕ
 unfolding opened negative
-closed k w limit f = negative (opened k w limit (negative f))
+closed k w h limit f = negative (opened k w h limit (negative f))
 
 -- ---- cleaning a plate on a side
 
@@ -70,9 +70,9 @@ unfoldable pub sideFits : ℕ → Bool
 sideFits side = eqb side lightSide || eqb side darkSide
 
 -- a plate cleaned on a side: closed on the dark one, opened on the light one
-unfoldable pub cleaned : ℕ → ℕ → ℕ → ℕ → List ℕ → List ℕ
+unfoldable pub cleaned : ℕ → ℕ → ℕ → ℕ → ℕ → List ℕ → List ℕ
 unfolding opened closed
-cleaned side k w limit f = pick (eqb side darkSide) (closed k w limit f) (opened k w limit f)
+cleaned side k w h limit f = pick (eqb side darkSide) (closed k w h limit f) (opened k w h limit f)
 
 -- ---- the specification's words
 

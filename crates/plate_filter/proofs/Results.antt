@@ -47,11 +47,11 @@ side-plate-table negated n g =
     side-plate-grey negated (table n g) p (rw (length-table n g) m) ∙ rw (getD-table n g p 0 m) (sym (getD-table n g′ p 0 m)))
 
 -- closing is opening on the negative
-side-opened : (negated : Bool) (k w limit : ℕ) (f : List ℕ)
-    → sidePlate negated (opened k w limit (sidePlate negated f)) ≡ pick negated (closed k w limit f) (opened k w limit f)
+side-opened : (negated : Bool) (k w h limit : ℕ) (f : List ℕ)
+    → sidePlate negated (opened k w h limit (sidePlate negated f)) ≡ pick negated (closed k w h limit f) (opened k w h limit f)
 unfolding closed
-side-opened true k w limit f = refl
-side-opened false k w limit f = refl
+side-opened true k w h limit f = refl
+side-opened false k w h limit f = refl
 
 -- ---- the tree of the plate f, or of its negative, in the work space w
 
@@ -107,23 +107,23 @@ module _ {negated : Bool} {k wd ht : ℕ} {f v w : List ℕ} {count : ℕ} (p : 
 
   module _ {limit : ℕ} {w′ : List ℕ} (h : limit ≤ n) (c : Cut limit n count w w′) where
     abbrev keep : (ℕ → Bool) → Bool
-    keep = atLeast (attribute n) limit
+    keep = atLeast (attribute wd ht) limit
 
     crit : Criterion n keep
-    crit = attribute-criterion (area-attribute n) limit h
+    crit = attribute-criterion (area-attribute wd ht (p .plate .long)) limit h
 
     a : Valued n w w′
     a = c .valued
 
-    area-here : (i : ℕ) → i < count → col AREA n w′ i ≡ area n (holds n near g xs i)
+    area-here : (i : ℕ) → i < count → col AREA n w′ i ≡ attribute wd ht (holds n near g xs i)
     unfolding areaOf
-    area-here i l = rw (a .off AREA (omega arith) (λ x. omega arith)) (p .facts .tree .area-is i l)
+    area-here i l = rw (a .off AREA (omega arith) (λ x. omega arith), ← (p .plate .long)) (p .facts .tree .area-is i l)
 
     kept : (i : ℕ) → i < length xs → T (keep (holds n near g xs i)) → col VALUE n w′ i ≡ g (nth xs i)
     kept i l t =
         let m : i < count = below-length i l in
         c .values i m
-        ∙ cut-value-yes limit n w′ i (rw (area-here i m) (leb→le limit (area n (holds n near g xs i)) t))
+        ∙ cut-value-yes limit n w′ i (rw (area-here i m) (leb→le limit (attribute wd ht (holds n near g xs i)) t))
         ∙ rw (a .off LEVEL (omega arith) (λ x. omega arith)) (p .facts .tree .level-is i m)
 
     not-kept : (i : ℕ) → 0 < i → i < length xs → (T (keep (holds n near g xs i)) → ⊥) → col VALUE n w′ i ≡ col VALUE n w′ (parent n near g xs i)
@@ -131,7 +131,7 @@ module _ {negated : Bool} {k wd ht : ℕ} {f v w : List ℕ} {count : ℕ} (p : 
         let m : i < count = below-length i l in
         let x : col PARENT n w′ i ≡ parent n near g xs i = rw (a .off PARENT (omega arith) (λ x. omega arith)) (p .facts .tree .parent-is i m) in
         c .values i m
-        ∙ cut-value-no limit n w′ i (rw (area-here i m) (nleb→lt limit (area n (holds n near g xs i)) (not-T (keep (holds n near g xs i)) e)))
+        ∙ cut-value-no limit n w′ i (rw (area-here i m) (nleb→lt limit (attribute wd ht (holds n near g xs i)) (not-T (keep (holds n near g xs i)) e)))
         ∙ ap (col VALUE n w′) x
 
     node-opened : (i : ℕ) → i < count → col VALUE n w′ i ≡ openedAt n near keep g (nth xs i)
@@ -145,19 +145,19 @@ module _ {negated : Bool} {k wd ht : ℕ} {f v w : List ℕ} {count : ℕ} (p : 
     cut-writable = writable a (λ q l. omega (arith, cut-opens q l, opened-below (p .facts .grid) crit g q, p .facts .tree .greys q l))
 
     -- the opening of the plate or its negative, by pixel
-    opened-side : opened k wd limit (sidePlate negated f) ≡ table n (openedAt n near keep g)
+    opened-side : opened k wd ht limit (sidePlate negated f) ≡ table n (openedAt n near keep g)
     unfolding opened
     opened-side = rw (side-plate-length negated f, p .same)
 
-    cut-side : table n (outValue negated n w′) ≡ sidePlate negated (opened k wd limit (sidePlate negated f))
+    cut-side : table n (outValue negated n w′) ≡ sidePlate negated (opened k wd ht limit (sidePlate negated f))
     cut-side =
         table-same n (outValue negated n w′) (λ (q : ℕ). sideGrey negated (openedAt n near keep g q)) (λ q l. ap (sideGrey negated) (cut-opens q l))
         ∙ sym (side-plate-table negated n (openedAt n near keep g)) ∙ ap (sidePlate negated) (sym opened-side)
 
     -- the plate cleaned on a side
-    pub cut-answer : (side : ℕ) → negated ≡ eqb side darkSide → table n (outValue negated n w′) ≡ cleaned side k wd limit f
+    pub cut-answer : (side : ℕ) → negated ≡ eqb side darkSide → table n (outValue negated n w′) ≡ cleaned side k wd ht limit f
     unfolding cleaned
-    cut-answer side e = cut-side ∙ side-opened negated k wd limit f ∙ ap (λ (b : Bool). pick b (closed k wd limit f) (opened k wd limit f)) e
+    cut-answer side e = cut-side ∙ side-opened negated k wd ht limit f ∙ ap (λ (b : Bool). pick b (closed k wd ht limit f) (opened k wd ht limit f)) e
 
 -- ---- the nodes without a child are the regional maxima
 

@@ -28,7 +28,7 @@ pub record PlateAnswered (k w h : ℕ) (f : List ℕ) (refusal : ℕ) (answer ou
 -- cleaning on a side at a limit
 abbrev pub Cleaned : (side k w h limit : ℕ) (f out out′ work work′ : List ℕ) (r : ℕ) → Type 0
 Cleaned side k w h limit f out out′ work work′ r =
-    PlateAnswered k w h f (cleanRefusal side k w h limit f (length out) (length work)) (cleaned side k w limit f) out out′ work work′ r
+    PlateAnswered k w h f (cleanRefusal side k w h limit f (length out) (length work)) (cleaned side k w h limit f) out out′ work work′ r
 
 -- marking the regional maxima
 abbrev pub MaximaMarked : (k w h : ℕ) (f out out′ work work′ : List ℕ) (r : ℕ) → Type 0

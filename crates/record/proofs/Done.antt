@@ -98,7 +98,7 @@ module _ {P : Parsed} {wd ht k count : ℕ} {work w₁ : List ℕ} (t : TreeFoun
         record { counts-fit = ltb-false (length counted) (wd * ht - 1) (both .0); losses-fit = ltb-false (length lost) (wd * ht - 1) (both .1) }
 
     pub sizes-done : {counted′ lost′ w₂ : List ℕ} {d : ℕ} → SizesWritten (wd * ht) count w₁ counted counted′ lost lost′
-        → ((m : ℕ) → OfPlate (wd * ht) w₁ m (λ k wd f. d ≡ darkest f)) → w₂ ≡ replicate (8 * (wd * ht)) 0 ++ drop (8 * (wd * ht)) w₁
+        → ((m : ℕ) → OfPlate (wd * ht) w₁ m (λ k wd ht f. d ≡ darkest f)) → w₂ ≡ replicate (8 * (wd * ht)) 0 ++ drop (8 * (wd * ht)) w₁
         → ListedSizes P counted counted′ lost lost′ work w₂
         (record { refusal = 0; width = wd; height = ht; connectivity = k; nodes = count; darkest = d })
     sizes-done s d c =

@@ -34,10 +34,10 @@ headOf refusal (plate k w h f) =
     record { refusal = refusal; width = pick (eqb refusal 0) w 0; height = pick (eqb refusal 0) h 0; connectivity = pick (eqb refusal 0) k 0 }
 
 -- an output: what the plate's operation answers, where nothing is refused
-abbrev pub parsedOut : ℕ → Parsed → (ℕ → ℕ → List ℕ → List ℕ) → List ℕ → List ℕ
+abbrev pub parsedOut : ℕ → Parsed → (ℕ → ℕ → ℕ → List ℕ → List ℕ) → List ℕ → List ℕ
 parsedOut refusal (early number) answer out = out
 parsedOut refusal (late number pixels) answer out = out
-parsedOut refusal (plate k w h f) answer out = outAfter refusal (answer k w f) out
+parsedOut refusal (plate k w h f) answer out = outAfter refusal (answer k w h f) out
 
 -- ---- reading: 5
 
@@ -45,7 +45,7 @@ abbrev pub readRefusal : Parsed → ℕ → ℕ
 readRefusal p out = parsedRefusal p λ w h. outRefusal (w * h) out 0
 
 abbrev pub readOut : Parsed → List ℕ → List ℕ
-readOut p out = parsedOut (readRefusal p (length out)) p (λ k w f. f) out
+readOut p out = parsedOut (readRefusal p (length out)) p (λ k w h f. f) out
 
 -- ---- cutting: 4, 5
 
@@ -53,7 +53,7 @@ abbrev pub cutRefusal : Parsed → ℕ → ℕ → ℕ
 cutRefusal p limit out = parsedRefusal p λ w h. limitRefusal w h limit (outRefusal (w * h) out 0)
 
 abbrev pub cutOut : Parsed → ℕ → List ℕ → List ℕ
-cutOut p limit out = parsedOut (cutRefusal p limit (length out)) p (λ k w f. cut k w limit f) out
+cutOut p limit out = parsedOut (cutRefusal p limit (length out)) p (λ k w h f. cut k w h limit f) out
 
 -- ---- size list: 5 when either table has fewer than pixels - 1 places
 

@@ -72,6 +72,10 @@ module _ {k wd ht : ℕ} {f w : List ℕ} {count : ℕ} (s : Standing k wd ht f 
   unfolding nodesOf
   area-is i l = rw (s .same) at (s .facts .tree .area-is i l)
 
+  attribute-area : (i : ℕ) → attribute wd ht (holds n near (grey f) xs i) ≡ areaOf n near (grey f) xs i
+  unfolding areaOf
+  attribute-area i = rw (← (s .plate .long))
+
   -- a parent has a smaller number
   earlier : (i : ℕ) → 0 < i → i < count → col PARENT n w i < i
   earlier i h l = omega (arith, parent-is i l, parent-below grid nodes i h)
@@ -88,7 +92,7 @@ module _ {k wd ht : ℕ} {f w : List ℕ} {count : ℕ} (s : Standing k wd ht f 
 
   module _ (limit : ℕ) (m : limit ≤ n) where
     abbrev keep : (ℕ → Bool) → Bool
-    keep = atLeast (attribute n) limit
+    keep = atLeast (attribute wd ht) limit
 
     pub climbable : Climbable limit n w count
     climbable = record {
@@ -98,12 +102,10 @@ module _ {k wd ht : ℕ} {f w : List ℕ} {count : ℕ} (s : Standing k wd ht f 
     }
 
     kept : (i : ℕ) → i < count → limit ≤ col AREA n w i → T (keep (holds n near (grey f) xs i))
-    unfolding areaOf
-    kept i l h = le→leb limit (area n (holds n near (grey f) xs i)) (omega (arith, area-is i l))
+    kept i l h = le→leb limit (attribute wd ht (holds n near (grey f) xs i)) (omega (arith, area-is i l, attribute-area i))
 
     left : (i : ℕ) → i < count → col AREA n w i < limit → T (keep (holds n near (grey f) xs i)) → ⊥
-    unfolding areaOf
-    left i l h t = omega (arith, area-is i l, leb→le limit (area n (holds n near (grey f) xs i)) t)
+    left i l h t = omega (arith, area-is i l, attribute-area i, leb→le limit (attribute wd ht (holds n near (grey f) xs i)) t)
 
     -- the level at the end of the climb is the opening at the node's anchor
     climb-level : {i r : ℕ} → Climb limit (col AREA n w) (col PARENT n w) i r → i < count → col LEVEL n w r ≡ openedAt n near keep (grey f) (nth xs i)
@@ -133,7 +135,7 @@ module _ {k wd ht : ℕ} {f w : List ℕ} {count : ℕ} (s : Standing k wd ht f 
       }
 
       -- what is written is the cut
-      pub settled-cut : table n (outValue false n w′) ≡ cut k wd limit f
+      pub settled-cut : table n (outValue false n w′) ≡ cut k wd ht limit f
       unfolding opened
       settled-cut =
           table-same n (outValue false n w′) (openedAt n near keep (grey f)) settled-value ∙ sym (cut-is-opened (s .plate) limit m)
@@ -178,33 +180,35 @@ module _ {k wd ht : ℕ} {f w : List ℕ} {count : ℕ} (s : Standing k wd ht f 
   }
 
   -- the nodes of each area
-  pub listed-counts : byArea n w (λ (j : ℕ). 1) count ≡ counts k wd f
-  unfolding counts countAt areaOf
+  pub listed-counts : byArea n w (λ (j : ℕ). 1) count ≡ counts k wd ht f
+  unfolding counts countAt
   listed-counts =
       table-same (n - 1) (λ (i : ℕ). tally (col AREA n w) (λ (j : ℕ). 1) count (suc i))
-      (λ (i : ℕ). countAt n near (grey f) xs (attribute n) (suc i)) (λ i l.
-      tally-cong (col AREA n w) (λ (j : ℕ). 1) (areaOf n near (grey f) xs) (λ (j : ℕ). 1) count (suc i) (λ j h. rw (area-is j h))
-      ∙ rw count-is (tally-one (areaOf n near (grey f) xs) (length xs) (suc i)))
+      (λ (i : ℕ). countAt n near (grey f) xs (attribute wd ht) (suc i)) (λ i l.
+      tally-cong (col AREA n w) (λ (j : ℕ). 1) (λ (j : ℕ). attribute wd ht (holds n near (grey f) xs j)) (λ (j : ℕ). 1) count (suc i)
+      (λ j h. rw (area-is j h, attribute-area j))
+      ∙ rw count-is (tally-one (λ (j : ℕ). attribute wd ht (holds n near (grey f) xs j)) (length xs) (suc i)))
 
   -- the grey lost at each area
   loss-same : (a : ℕ) → a < n → (j : ℕ) → j < count
-      → pick (eqb (col AREA n w j) a) (lossOf n w j) 0 ≡ pick (eqb (areaOf n near (grey f) xs j) a)
+      → pick (eqb (col AREA n w j) a) (lossOf n w j) 0 ≡ pick (eqb (attribute wd ht (holds n near (grey f) xs j)) a)
       (areaOf n near (grey f) xs j * rise n near (grey f) xs j) 0
   unfolding rise
   loss-same a h zero l =
       pick-no (eqb (col AREA n w 0) a) (lossOf n w 0) 0 (λ t. omega (arith, whole, eqb→eq (col AREA n w 0) a t))
-      ∙ sym (pick-no (eqb (areaOf n near (grey f) xs 0) a) (areaOf n near (grey f) xs 0 * rise n near (grey f) xs 0) 0
-      (λ t. omega (arith, root-area grid nodes, eqb→eq (areaOf n near (grey f) xs 0) a t)))
+      ∙ sym (pick-no (eqb (attribute wd ht (holds n near (grey f) xs 0)) a) (areaOf n near (grey f) xs 0 * rise n near (grey f) xs 0) 0
+      (λ t. omega (arith, root-area grid nodes, attribute-area 0, eqb→eq (attribute wd ht (holds n near (grey f) xs 0)) a t)))
   loss-same a h (suc j) l =
       let below : parent n near (grey f) xs (suc j) < count = omega (arith, parent-below grid nodes (suc j) (omega arith)) in
-      rw (area-is (suc j) l, level-is (suc j) l, parent-is (suc j) l, level-is (parent n near (grey f) xs (suc j)) below)
+      rw (attribute-area (suc j), area-is (suc j) l, level-is (suc j) l, parent-is (suc j) l, level-is (parent n near (grey f) xs (suc j)) below)
 
-  pub listed-losses : byArea n w (lossOf n w) count ≡ losses k wd f
+  pub listed-losses : byArea n w (lossOf n w) count ≡ losses k wd ht f
   unfolding losses tally
   listed-losses =
-      table-same (n - 1) (λ (i : ℕ). tally (col AREA n w) (lossOf n w) count (suc i)) (λ (i : ℕ). lostAt n near (grey f) xs (attribute n) (suc i))
+      table-same (n - 1) (λ (i : ℕ). tally (col AREA n w) (lossOf n w) count (suc i)) (λ (i : ℕ). lostAt n near (grey f) xs (attribute wd ht) (suc i))
       (λ i l.
-      tally-cong (col AREA n w) (lossOf n w) (areaOf n near (grey f) xs) (λ (j : ℕ). areaOf n near (grey f) xs j * rise n near (grey f) xs j) count (suc i)
+      tally-cong (col AREA n w) (lossOf n w) (λ (j : ℕ). attribute wd ht (holds n near (grey f) xs j))
+      (λ (j : ℕ). areaOf n near (grey f) xs j * rise n near (grey f) xs j) count (suc i)
       (loss-same (suc i) (omega arith))
       ∙ rw count-is (sym (lost-is-sum (s .plate) (suc i) (omega arith))))
 
@@ -239,5 +243,5 @@ module _ {n count : ℕ} {w : List ℕ} where
     lost-is = λ k wd ht f s x. b ∙ rw (← listed-losses s, x);
   }
 
-pub darkest-is : {n r : ℕ} {w : List ℕ} → r ≡ col LEVEL n w 0 → (count : ℕ) → OfPlate n w count (λ k wd f. r ≡ darkest f)
+pub darkest-is : {n r : ℕ} {w : List ℕ} → r ≡ col LEVEL n w 0 → (count : ℕ) → OfPlate n w count (λ k wd ht f. r ≡ darkest f)
 darkest-is e count k wd ht f s x = e ∙ rw (← x) (darkest-level s)

@@ -18,13 +18,13 @@ pub record Stands (n : ℕ) (w : List ℕ) (count : ℕ) : Type 0 where
   pub pixels : length f ≡ n
 
 -- P holds of every such plate
-abbrev pub OfPlate : ℕ → List ℕ → ℕ → (ℕ → ℕ → List ℕ → Type 0) → Type 0
-OfPlate n w count P = (k wd ht : ℕ) (f : List ℕ) → Standing k wd ht f w count → length f ≡ n → P k wd f
+abbrev pub OfPlate : ℕ → List ℕ → ℕ → (ℕ → ℕ → ℕ → List ℕ → Type 0) → Type 0
+OfPlate n w count P = (k wd ht : ℕ) (f : List ℕ) → Standing k wd ht f w count → length f ≡ n → P k wd ht f
 
 -- the cut at the limit is written
 pub record CutWritten (limit n count : ℕ) (w w′ out out′ : List ℕ) : Type 0 where
   pub frame : Frame n w w′
-  pub written : OfPlate n w count (λ k wd f. out′ ≡ over (cut k wd limit f) out)
+  pub written : OfPlate n w count (λ k wd ht f. out′ ≡ over (cut k wd ht limit f) out)
 
 -- there is room for the size list
 pub record TablesFit (n : ℕ) (counted lost : List ℕ) : Type 0 where
@@ -33,5 +33,5 @@ pub record TablesFit (n : ℕ) (counted lost : List ℕ) : Type 0 where
 
 -- the size list is written
 pub record SizesWritten (n count : ℕ) (w counted counted′ lost lost′ : List ℕ) : Type 0 where
-  pub counted-is : OfPlate n w count (λ k wd f. counted′ ≡ over (counts k wd f) counted)
-  pub lost-is : OfPlate n w count (λ k wd f. lost′ ≡ over (losses k wd f) lost)
+  pub counted-is : OfPlate n w count (λ k wd ht f. counted′ ≡ over (counts k wd ht f) counted)
+  pub lost-is : OfPlate n w count (λ k wd ht f. lost′ ≡ over (losses k wd ht f) lost)

@@ -126,7 +126,7 @@ pub fn list_sizes(w: &[u32], n: usize, count: usize, counts: &mut [u32], losses:
 pub fn darkest_of(w: &[u32], n: usize) -> u32
     requires { ⌜ Room (now w) n ⌝ }
     requires { ⌜ 0 < n ⌝ }
-    ensures { λ r. ⌜ ((count : ℕ) → OfPlate n (now (w .entry)) count (λ k wd f. r ≡ darkest f)) ⌝ }
+    ensures { λ r. ⌜ ((count : ℕ) → OfPlate n (now (w .entry)) count (λ k wd ht f. r ≡ darkest f)) ⌝ }
 {
     work_columns::get(w, n, LEVEL, 0) as u32
 }

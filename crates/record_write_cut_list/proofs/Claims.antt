@@ -17,13 +17,13 @@ use Rattle.record_write_cut_list.specs.WriteCutList.{AtLimit}
 module _ {k w h : ℕ} {f : List ℕ} (pl : Plate k w h f) (limit : ℕ) (low : 1 ≤ limit) (high : limit ≤ w * h)
     (out counted lost work : List ℕ) (places : w * h ≤ length out) (a : w * h - 1 ≤ length counted) (b : w * h - 1 ≤ length lost)
     (space : 8 * (w * h) ≤ length work) where
-  pub at-limit : AtLimit k w h limit f (take (w * h) (over (cut k w limit f) out)) (over (counts k w f) counted) (over (losses k w f) lost) (darkest f)
+  pub at-limit : AtLimit k w h limit f (take (w * h) (over (cut k w h limit f) out)) (over (counts k w h f) counted) (over (losses k w h f) lost) (darkest f)
   at-limit =
       let bytes = recordOf k w h f in
       let c = cut-claim pl limit low high out work places space in
       let s = size-claim pl counted lost work out a b space places in
-      let cut-is : take (w * h) (over (cut k w limit f) out) ≡ cutPlate w h bytes limit out work =
-      over-take (cut k w limit f) out (w * h) (cut-length pl limit) ∙ sym (cut-plate-is pl limit low high out work places space) in
+      let cut-is : take (w * h) (over (cut k w h limit f) out) ≡ cutPlate w h bytes limit out work =
+      over-take (cut k w h limit f) out (w * h) (cut-length pl limit) ∙ sym (cut-plate-is pl limit low high out work places space) in
       record {
         nowhere-lighter = rw cut-is (c .nowhere-lighter);
         large-maxima = rw cut-is (c .large-maxima);

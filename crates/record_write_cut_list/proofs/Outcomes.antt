@@ -176,9 +176,9 @@ module _ (k w h limit : ℕ) (f bytes out counted lost work : List ℕ) {e : ℕ
             let u : ListedSizes (plate k w h f) counted counted₁ lost lost₁ w₂ w₃ r₃ = rw (read-is w₂-is) at s in
             let sz = size-zero pl counted lost work out (fits .counts-fit) (fits .losses-fit) (fits .sizes .space) (fits .sizes .room) in
             let w₃-is : w₃ ≡ workAfter true (w * h) work = u .space ∙ ap (workAfter true (w * h)) w₂-is ∙ zeroed-again (w * h) work in
-            let cut-is : out₁ ≡ over (cut k w limit f) out = t .output ∙ rw cz in
-            let counts-are : counted₁ ≡ over (counts k w f) counted = u .count-table ∙ rw sz in
-            let losses-are : lost₁ ≡ over (losses k w f) lost = u .loss-table ∙ rw sz in
+            let cut-is : out₁ ≡ over (cut k w h limit f) out = t .output ∙ rw cz in
+            let counts-are : counted₁ ≡ over (counts k w h f) counted = u .count-table ∙ rw sz in
+            let losses-are : lost₁ ≡ over (losses k w h f) lost = u .loss-table ∙ rw sz in
             let nodes-are : r₃ .nodes ≡ length (nodesOf k w f) = ap (λ (a : SizeHead). a .nodes) (u .answer) ∙ rw sz in
             let dark-is : r₃ .darkest ≡ darkest f = ap (λ (a : SizeHead). a .darkest) (u .answer) ∙ rw sz in
             record {

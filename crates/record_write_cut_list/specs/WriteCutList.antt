@@ -51,12 +51,12 @@ module _ (k w h limit : ℕ) (f bytes out counted lost work : List ℕ) where
 pub record AtLimit (k w h limit : ℕ) (f g counted lost : List ℕ) (dark : ℕ) : Type 0 where
   -- the lightest plate that is nowhere lighter than f and whose regional maxima have at least the limit's pixels
   pub nowhere-lighter : NowhereLighter g f
-  pub large-maxima : LargeMaxima k w limit g
-  pub lightest : (other : List ℕ) → NowhereLighter other f → LargeMaxima k w limit other → NowhereLighter other g
+  pub large-maxima : LargeMaxima k w h limit g
+  pub lightest : (other : List ℕ) → NowhereLighter other f → LargeMaxima k w h limit other → NowhereLighter other g
   -- for each area the number of nodes, and the grey lost, which with the total of the cut at one more makes the total of the cut at that area
   pub node-counts : (a : ℕ) → 1 ≤ a → a < w * h
       → nth counted (a - 1) ≡ area (length (nodesOf k w f)) (λ (i : ℕ). eqb (areaOf (length f) (touch k w) (grey f) (nodesOf k w f) i) a)
-  pub grey-lost : (a : ℕ) → 1 ≤ a → a < w * h → nth lost (a - 1) + total (cut k w (suc a) f) ≡ total (cut k w a f)
+  pub grey-lost : (a : ℕ) → 1 ≤ a → a < w * h → nth lost (a - 1) + total (cut k w h (suc a) f) ≡ total (cut k w h a f)
   -- all losses and the darkest grey over every pixel make the plate's total
   pub whole : sum (w * h - 1) (nth lost) + dark * (w * h) ≡ total f
 
@@ -65,9 +65,9 @@ pub record WrittenCutListed (k w h limit : ℕ) (f bytes bytes′ out out′ cou
   where
     pub answer : r ≡ writeCutListAnswer k w h limit f bytes out counted lost work
     pub written : bytes′ ≡ outAfter (writeCutListRefusal k w h limit f bytes out counted lost work) (recordOf k w h f) bytes
-    pub cut-plate : out′ ≡ outAfter (writeCutListRefusal k w h limit f bytes out counted lost work) (cut k w limit f) out
-    pub count-table : counted′ ≡ outAfter (writeCutListRefusal k w h limit f bytes out counted lost work) (counts k w f) counted
-    pub loss-table : lost′ ≡ outAfter (writeCutListRefusal k w h limit f bytes out counted lost work) (losses k w f) lost
+    pub cut-plate : out′ ≡ outAfter (writeCutListRefusal k w h limit f bytes out counted lost work) (cut k w h limit f) out
+    pub count-table : counted′ ≡ outAfter (writeCutListRefusal k w h limit f bytes out counted lost work) (counts k w h f) counted
+    pub loss-table : lost′ ≡ outAfter (writeCutListRefusal k w h limit f bytes out counted lost work) (losses k w h f) lost
     pub space : work′ ≡ workAfter (workBegins k w h limit f bytes out counted lost work) (w * h) work
     pub accepted : writeCutListRefusal k w h limit f bytes out counted lost work ≡ 0 → Plate k w h f
     pub claim : writeCutListRefusal k w h limit f bytes out counted lost work ≡ 0

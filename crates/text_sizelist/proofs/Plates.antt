@@ -100,7 +100,7 @@ module _ {w h : ℕ} {f : List ℕ} (pl : Plate four w h f) where
   darkest-low = omega (arith, darkest-root pl, pl .greys (nth xs 0) (nth-inside (plate-grid pl) (plate-nodes pl) 0 some-nodes))
 
   plate-text-is : plateText w h f
-      ≡ (headLine w h four (length xs) ++ gather (length f - 1) (sizeLine (counts four w f) (losses four w f))) ++ restLine (darkest f)
+      ≡ (headLine w h four (length xs) ++ gather (length f - 1) (sizeLine (counts four w h f) (losses four w h f))) ++ restLine (darkest f)
   unfolding plateText
   plate-text-is = refl
 
@@ -139,18 +139,18 @@ module _ {w h : ℕ} {f : List ℕ} (pl : Plate four w h f) where
       pub listed-low : r .darkest < 256
       listed-low = omega (arith, ap (λ (s : SizeHead). s .darkest) head-is, darkest-low)
 
-      counts-length : length (counts four w f) ≡ length f - 1
+      counts-length : length (counts four w h f) ≡ length f - 1
       unfolding counts
-      counts-length = length-table (length f - 1) (λ (i : ℕ). countAt (length f) (touch four w) (grey f) xs (attribute (length f)) (suc i))
+      counts-length = length-table (length f - 1) (λ (i : ℕ). countAt (length f) (touch four w) (grey f) xs (attribute w h) (suc i))
 
-      losses-length : length (losses four w f) ≡ length f - 1
+      losses-length : length (losses four w h f) ≡ length f - 1
       unfolding losses
-      losses-length = length-table (length f - 1) (λ (i : ℕ). lostAt (length f) (touch four w) (grey f) xs (attribute (length f)) (suc i))
+      losses-length = length-table (length f - 1) (λ (i : ℕ). lostAt (length f) (touch four w) (grey f) xs (attribute w h) (suc i))
 
-      sizes-are : gather (length f - 1) (sizeLine counted′ lost′) ≡ gather (length f - 1) (sizeLine (counts four w f) (losses four w f))
+      sizes-are : gather (length f - 1) (sizeLine counted′ lost′) ≡ gather (length f - 1) (sizeLine (counts four w h f) (losses four w h f))
       sizes-are =
           rw (listed .count-table, listed .loss-table, none)
-          (sizes-over (length f - 1) (counts four w f) (losses four w f) counted lost counts-length losses-length)
+          (sizes-over (length f - 1) (counts four w h f) (losses four w h f) counted lost counts-length losses-length)
 
       pub listed-text : answerText r (gather (length f - 1) (sizeLine counted′ lost′)) ≡ plateText w h f
       listed-text =

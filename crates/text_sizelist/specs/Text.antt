@@ -50,7 +50,7 @@ restLine grey = line (bytes "rest") (grey ∷ inkOf grey ∷ [])
 unfoldable pub plateText : ℕ → ℕ → List ℕ → List ℕ
 unfolding headLine areaLine restLine gather nodesOf counts losses darkest
 plateText w h f =
-    (headLine w h four (length (nodesOf four w f)) ++ gather (length f - 1) (sizeLine (counts four w f) (losses four w f))) ++ restLine (darkest f)
+    (headLine w h four (length (nodesOf four w f)) ++ gather (length f - 1) (sizeLine (counts four w h f) (losses four w h f))) ++ restLine (darkest f)
 
 -- what reading the plate file answered, and the raster: its refusal, or the plate
 abbrev pub answerText : PgmRead → List ℕ → List ℕ

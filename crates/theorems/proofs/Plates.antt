@@ -9,7 +9,7 @@ use lib.ListN.{length, length-map}
 use lib.Seq.{ext-getD}
 use Rattle.meaning.specs.Cut.{cut, cutAt, darkest, total}
 use Rattle.meaning.specs.Nodes.{nodesOf}
-use Rattle.meaning.specs.Opening.{Criterion, atLeast, attribute, closed, opened, openedAt}
+use Rattle.meaning.specs.Opening.{Attribute, Criterion, atLeast, attribute, closed, opened, openedAt}
 use Rattle.meaning.specs.Paths.{Grid}
 use Rattle.meaning.specs.Plate.{Plate, greatestGrey, grey, negative, touch}
 use Rattle.meaning.specs.Sets.{elem, lowest, nth, place, sum, table}
@@ -75,22 +75,25 @@ module _ {k w h : ℕ} {f : List ℕ} (plate : Plate k w h f) where
 
   -- ---- the opening
 
-  pub opened-length : (limit : ℕ) → length (opened k w limit f) ≡ length f
+  pub opened-length : (limit : ℕ) → length (opened k w h limit f) ≡ length f
   unfolding opened
-  opened-length limit = length-table (length f) (openedAt (length f) (touch k w) (atLeast (attribute (length f)) limit) (grey f))
+  opened-length limit = length-table (length f) (openedAt (length f) (touch k w) (atLeast (attribute w h) limit) (grey f))
 
   pub opened-grey : (limit p : ℕ) → p < length f
-      → grey (opened k w limit f) p ≡ openedAt (length f) (touch k w) (atLeast (attribute (length f)) limit) (grey f) p
+      → grey (opened k w h limit f) p ≡ openedAt (length f) (touch k w) (atLeast (attribute w h) limit) (grey f) p
   unfolding opened
-  opened-grey limit = grey-table (length f) (openedAt (length f) (touch k w) (atLeast (attribute (length f)) limit) (grey f))
+  opened-grey limit = grey-table (length f) (openedAt (length f) (touch k w) (atLeast (attribute w h) limit) (grey f))
 
-  pub at-limit : (limit : ℕ) → limit ≤ length f → Criterion (length f) (atLeast (attribute (length f)) limit)
-  at-limit = attribute-criterion (area-attribute (length f))
+  pub plate-attribute : Attribute (length f) (attribute w h)
+  plate-attribute = area-attribute w h (plate .long)
 
-  pub opened-below-plate : (limit p : ℕ) → limit ≤ length f → p < length f → grey (opened k w limit f) p ≤ grey f p
+  pub at-limit : (limit : ℕ) → limit ≤ length f → Criterion (length f) (atLeast (attribute w h) limit)
+  at-limit = attribute-criterion plate-attribute
+
+  pub opened-below-plate : (limit p : ℕ) → limit ≤ length f → p < length f → grey (opened k w h limit f) p ≤ grey f p
   opened-below-plate limit p m l = omega (arith, opened-grey limit p l, opened-below plate-grid (at-limit limit m) (grey f) p)
 
-  pub opened-plate : (limit : ℕ) → limit ≤ length f → Plate k w h (opened k w limit f)
+  pub opened-plate : (limit : ℕ) → limit ≤ length f → Plate k w h (opened k w h limit f)
   opened-plate limit m = record {
     kind = plate .kind;
     sizes = plate .sizes;
@@ -103,16 +106,16 @@ module _ {k w h : ℕ} {f : List ℕ} (plate : Plate k w h f) where
   -- ---- the cut
 
   pub cut-grey : (limit p : ℕ) → p < length f
-      → grey (cut k w limit f) p ≡ cutAt (length f) (touch k w) (grey f) (nodesOf k w f) (atLeast (attribute (length f)) limit) p
+      → grey (cut k w h limit f) p ≡ cutAt (length f) (touch k w) (grey f) (nodesOf k w f) (atLeast (attribute w h) limit) p
   unfolding cut
-  cut-grey limit = grey-table (length f) (cutAt (length f) (touch k w) (grey f) (nodesOf k w f) (atLeast (attribute (length f)) limit))
+  cut-grey limit = grey-table (length f) (cutAt (length f) (touch k w) (grey f) (nodesOf k w f) (atLeast (attribute w h) limit))
 
-  pub cut-is-opened : (limit : ℕ) → limit ≤ length f → cut k w limit f ≡ opened k w limit f
+  pub cut-is-opened : (limit : ℕ) → limit ≤ length f → cut k w h limit f ≡ opened k w h limit f
   unfolding cut opened
   cut-is-opened limit m =
       table-same (length f)
-      (cutAt (length f) (touch k w) (grey f) (nodesOf k w f) (atLeast (attribute (length f)) limit))
-      (openedAt (length f) (touch k w) (atLeast (attribute (length f)) limit) (grey f))
+      (cutAt (length f) (touch k w) (grey f) (nodesOf k w f) (atLeast (attribute w h) limit))
+      (openedAt (length f) (touch k w) (atLeast (attribute w h) limit) (grey f))
       (cut-opened plate-grid (at-limit limit m) plate-nodes)
 
   -- ---- darkest and total grey
@@ -131,11 +134,11 @@ module _ {k w h : ℕ} {f : List ℕ} (plate : Plate k w h f) where
       let q = place-is f (lowest (suc greatestGrey) (elem f)) at in
       le-antisymm le (omega (arith, root-grey (place f (lowest (suc greatestGrey) (elem f))) (q .0), q .1))
 
-  pub total-cut : (limit : ℕ) → total (cut k w limit f)
-      ≡ sum (length f) (cutAt (length f) (touch k w) (grey f) (nodesOf k w f) (atLeast (attribute (length f)) limit))
+  pub total-cut : (limit : ℕ) → total (cut k w h limit f)
+      ≡ sum (length f) (cutAt (length f) (touch k w) (grey f) (nodesOf k w f) (atLeast (attribute w h) limit))
   unfolding total cut
   total-cut limit =
-      let g : ℕ → ℕ = cutAt (length f) (touch k w) (grey f) (nodesOf k w f) (atLeast (attribute (length f)) limit) in
+      let g : ℕ → ℕ = cutAt (length f) (touch k w) (grey f) (nodesOf k w f) (atLeast (attribute w h) limit) in
       ap (λ (n : ℕ). sum n (grey (table (length f) g))) (length-table (length f) g)
       ∙ sum-cong (length f) (grey (table (length f) g)) g (grey-table (length f) g)
 
@@ -151,20 +154,20 @@ module _ {k w h : ℕ} {f : List ℕ} (plate : Plate k w h f) where
       let m : p < length f = rw e at l in
       omega (arith, negative-grey neg p (rw (negative-length f) m), negative-grey plate p m, plate .greys p m))
 
-  pub closed-length : (limit : ℕ) → length (closed k w limit f) ≡ length f
+  pub closed-length : (limit : ℕ) → length (closed k w h limit f) ≡ length f
   unfolding closed negative
   closed-length limit =
-      length-map (opened k w limit (negative f)) (λ (g : ℕ). greatestGrey - g)
+      length-map (opened k w h limit (negative f)) (λ (g : ℕ). greatestGrey - g)
       ∙ opened-length (negative-plate plate) limit
       ∙ negative-length f
 
-  pub closed-grey : (limit p : ℕ) → p < length f → grey (closed k w limit f) p ≡ greatestGrey - grey (opened k w limit (negative f)) p
+  pub closed-grey : (limit p : ℕ) → p < length f → grey (closed k w h limit f) p ≡ greatestGrey - grey (opened k w h limit (negative f)) p
   unfolding closed negative
   closed-grey limit p l =
-      getD-map (λ (g : ℕ). greatestGrey - g) (opened k w limit (negative f)) p
+      getD-map (λ (g : ℕ). greatestGrey - g) (opened k w h limit (negative f)) p
       (omega (arith, opened-length (negative-plate plate) limit, negative-length f))
 
   -- closing the negative is the negative of opening
-  pub closed-negative : (limit : ℕ) → closed k w limit (negative f) ≡ negative (opened k w limit f)
+  pub closed-negative : (limit : ℕ) → closed k w h limit (negative f) ≡ negative (opened k w h limit f)
   unfolding closed
   closed-negative limit = rw negative-twice

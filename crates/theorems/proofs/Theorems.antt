@@ -9,7 +9,7 @@ use lib.Dec.{leb, leb→le, le→leb}
 use lib.ListN.{length}
 use Rattle.meaning.specs.Cut.{total}
 use Rattle.meaning.specs.Maxima.{LargeMaxima, MaximaKept, Maximum, flatZone, marks, maximum}
-use Rattle.meaning.specs.Nodes.{areaOf, nodesOf, own}
+use Rattle.meaning.specs.Nodes.{nodesOf, own}
 use Rattle.meaning.specs.Opening.{atLeast, attribute, closed, opened, openedAt}
 use Rattle.meaning.specs.Plate.{Plate, greatestGrey, grey, negative, touch}
 use Rattle.meaning.specs.Sets.{bit, has, nth, table}
@@ -18,7 +18,7 @@ use Rattle.theory_connectivity.proofs.Touch.{touch-sym, touch-whole}
 use Rattle.theory_lists.proofs.Lists.{getD-table, table-same}
 use Rattle.theory_lists.proofs.Tests.{bit-no, bit-true, bit-yes}
 use Rattle.theory_opening.proofs.Absorb.{opened-cong}
-use Rattle.theory_opening.proofs.Area.{area-attribute, area-words}
+use Rattle.theory_opening.proofs.Area.{area-words}
 use Rattle.theory_opening.proofs.Attribute.{attribute-one, attribute-twice}
 use Rattle.theory_opening.proofs.Maxima.{maxima-cong, maxima-kept, maximum-complete, maximum-sound, opened-lightest}
 use Rattle.theory_opening.proofs.Opening.{opened-increasing}
@@ -91,6 +91,7 @@ use Rattle.theorems.proofs.Plates.{
   opened-grey,
   opened-length,
   opened-plate,
+  plate-attribute,
   plate-grid,
   plate-nodes,
   plate-some,
@@ -124,19 +125,19 @@ module _ {k w h : ℕ} {f : List ℕ} (plate : Plate k w h f) where
   -- ---- 3. the opened value
 
   pub opened-is-greatest : OpenedIsGreatest k w h f
-  opened-is-greatest limit t p m l = rw (opened-grey plate limit p l) (area-words (grey f) limit t p (plate-grid plate) m l)
+  opened-is-greatest limit t p m l = rw (opened-grey plate limit p l) (area-words (grey f) limit t p w h (plate .long) (plate-grid plate) m l)
 
   pub closed-is-least : ClosedIsLeast k w h f
   closed-is-least limit t p m l =
       let neg : Plate k w h (negative f) = negative-plate plate in
       let e : length (negative f) ≡ n = negative-length f in
-      let o : grey (opened k w limit (negative f)) p ≤ greatestGrey =
+      let o : grey (opened k w h limit (negative f)) p ≤ greatestGrey =
       opened-plate neg limit (omega arith) .greys p (omega (arith, opened-length neg limit)) in
-      let c : greatestGrey - grey (closed k w limit f) p ≡ openedAt n near (atLeast (attribute n) limit) (grey (negative f)) p =
+      let c : greatestGrey - grey (closed k w h limit f) p ≡ openedAt n near (atLeast (attribute w h) limit) (grey (negative f)) p =
       (omega (arith, closed-grey plate limit p l))
       ∙ opened-grey neg limit p (omega arith)
-      ∙ ap (λ (m : ℕ). openedAt m near (atLeast (attribute m) limit) (grey (negative f)) p) e in
-      rw c (area-words (grey (negative f)) limit t p (plate-grid plate) m l)
+      ∙ ap (λ (m : ℕ). openedAt m near (atLeast (attribute w h) limit) (grey (negative f)) p) e in
+      rw c (area-words (grey (negative f)) limit t p w h (plate .long) (plate-grid plate) m l)
 
   -- ---- 4. the opening
 
@@ -144,22 +145,22 @@ module _ {k w h : ℕ} {f : List ℕ} (plate : Plate k w h f) where
   opened-nowhere-lighter limit m = (opened-length plate limit, λ p l. opened-below-plate plate limit p m l)
 
   -- a plate's maxima by the function of its greys, and by its list
-  large-kept : (limit : ℕ) (g : List ℕ) → length g ≡ n → LargeMaxima k w limit g → MaximaKept n near (atLeast (attribute n) limit) (grey g)
+  large-kept : (limit : ℕ) (g : List ℕ) → length g ≡ n → LargeMaxima k w h limit g → MaximaKept n near (atLeast (attribute w h) limit) (grey g)
   large-kept limit g e m =
-      let kept : MaximaKept (length g) near (atLeast (attribute (length g)) limit) (grey g) =
-      λ p l x. le→leb limit (attribute (length g) (has (flatZone (length g) near (grey g) p))) (m p l x) in
+      let kept : MaximaKept (length g) near (atLeast (attribute w h) limit) (grey g) =
+      λ p l x. le→leb limit (attribute w h (has (flatZone (length g) near (grey g) p))) (m p l x) in
       rw e at kept
 
-  kept-large : (limit : ℕ) (g : List ℕ) → length g ≡ n → MaximaKept n near (atLeast (attribute n) limit) (grey g) → LargeMaxima k w limit g
+  kept-large : (limit : ℕ) (g : List ℕ) → length g ≡ n → MaximaKept n near (atLeast (attribute w h) limit) (grey g) → LargeMaxima k w h limit g
   kept-large limit g e m =
-      let large : (p : ℕ) → p < n → Maximum n near (grey g) p → limit ≤ attribute n (has (flatZone n near (grey g) p)) =
-      λ p l x. leb→le limit (attribute n (has (flatZone n near (grey g) p))) (m p l x) in
+      let large : (p : ℕ) → p < n → Maximum n near (grey g) p → limit ≤ attribute w h (has (flatZone n near (grey g) p)) =
+      λ p l x. leb→le limit (attribute w h (has (flatZone n near (grey g) p))) (m p l x) in
       rw e large
 
   pub opened-large-maxima : OpenedLargeMaxima k w h f
   opened-large-maxima limit m =
-      kept-large limit (opened k w limit f) (opened-length plate limit)
-      (maxima-cong near (at-limit plate limit m) (openedAt n near (atLeast (attribute n) limit) (grey f)) (grey (opened k w limit f))
+      kept-large limit (opened k w h limit f) (opened-length plate limit)
+      (maxima-cong near (at-limit plate limit m) (openedAt n near (atLeast (attribute w h) limit) (grey f)) (grey (opened k w h limit f))
       (λ p l. sym (opened-grey plate limit p l))
       (maxima-kept (plate-grid plate) (at-limit plate limit m) (grey f)))
 
@@ -175,22 +176,24 @@ module _ {k w h : ℕ} {f : List ℕ} (plate : Plate k w h f) where
   pub opened-at-one : OpenedAtOne k w h f
   unfolding opened
   opened-at-one =
-      table-same n (openedAt n near (atLeast (attribute n) 1) (grey f)) (grey f) (attribute-one (plate-grid plate) (area-attribute n) (grey f)) ∙ table-grey f
+      table-same n (openedAt n near (atLeast (attribute w h) 1) (grey f)) (grey f)
+      (attribute-one (plate-grid plate) (plate-attribute plate) (grey f))
+      ∙ table-grey f
 
   pub opened-twice-is-once : OpenedTwiceIsOnce k w h f
   unfolding opened
   opened-twice-is-once a b ha hb =
-      opened-of b (opened k w a f) n (opened-length plate a)
-      ∙ table-same n (openedAt n near (atLeast (attribute n) b) (grey (opened k w a f))) (openedAt n near (atLeast (attribute n) (max a b)) (grey f))
+      opened-of b (opened k w h a f) n (opened-length plate a)
+      ∙ table-same n (openedAt n near (atLeast (attribute w h) b) (grey (opened k w h a f))) (openedAt n near (atLeast (attribute w h) (max a b)) (grey f))
       (λ p l.
-      opened-cong (plate-grid plate) (at-limit plate b hb) (grey (opened k w a f)) (openedAt n near (atLeast (attribute n) a) (grey f))
+      opened-cong (plate-grid plate) (at-limit plate b hb) (grey (opened k w h a f)) (openedAt n near (atLeast (attribute w h) a) (grey f))
       (opened-grey plate a) p l
-      ∙ attribute-twice (plate-grid plate) (area-attribute n) a b ha hb (grey f) p l)
+      ∙ attribute-twice (plate-grid plate) (plate-attribute plate) a b ha hb (grey f) p l)
       ∙ sym (opened-of (max a b) f n refl)
     where
       -- the opening of a list of m greys
       opened-of : (limit : ℕ) (g : List ℕ) (m : ℕ) → length g ≡ m
-          → opened k w limit g ≡ table m (openedAt m near (atLeast (attribute m) limit) (grey g))
+          → opened k w h limit g ≡ table m (openedAt m near (atLeast (attribute w h) limit) (grey g))
       opened-of limit g m e = rw (← e)
 
   pub opened-grows : OpenedGrows k w h f
@@ -198,8 +201,8 @@ module _ {k w h : ℕ} {f : List ℕ} (plate : Plate k w h f) where
     opened-length other limit ∙ b .0 ∙ sym (opened-length plate limit),
     λ p l.
         let lp : p < n = rw (opened-length plate limit) at l in
-        let e : grey (opened k w limit g) p ≡ openedAt n near (atLeast (attribute n) limit) (grey g) p =
-        opened-grey other limit p (omega (arith, b .0)) ∙ ap (λ (m : ℕ). openedAt m near (atLeast (attribute m) limit) (grey g) p) (b .0) in
+        let e : grey (opened k w h limit g) p ≡ openedAt n near (atLeast (attribute w h) limit) (grey g) p =
+        opened-grey other limit p (omega (arith, b .0)) ∙ ap (λ (m : ℕ). openedAt m near (atLeast (attribute w h) limit) (grey g) p) (b .0) in
         omega (arith, e, opened-grey plate limit p lp, opened-increasing (plate-grid plate) (at-limit plate limit m) (grey g) (grey f) (b .1) p lp),
   )
 
@@ -271,31 +274,29 @@ module _ {k w h : ℕ} {f : List ℕ} (plate : Plate k w h f) where
   -- ---- 7. sums
 
   pub cut-is-sum : CutIsSum k w h f
-  unfolding areaOf live
+  unfolding live
   cut-is-sum limit p m l =
       cut-grey plate limit p l
       ∙ cut-opened (plate-grid plate) (at-limit plate limit m) (plate-nodes plate) p l
       ∙ opened-sum (plate-grid plate) (at-limit plate limit m) (plate-nodes plate) p l
 
   pub cut-total : CutTotal k w h f
-  unfolding areaOf
-  cut-total limit m = total-cut plate limit ∙ total-nodes (plate-grid plate) (area-attribute n) (plate-nodes plate) limit m
+  cut-total limit m = total-cut plate limit ∙ total-nodes (plate-grid plate) (plate-attribute plate) (plate-nodes plate) limit m
 
   pub lost-is-sum : LostIsSum k w h f
-  unfolding areaOf
-  lost-is-sum = lost-nodes (plate-grid plate) (area-attribute n) (plate-nodes plate)
+  lost-is-sum = lost-nodes (plate-grid plate) (plate-attribute plate) (plate-nodes plate)
 
   pub lost-makes-cut : LostMakesCut k w h f
   lost-makes-cut a h =
-      omega (arith, total-cut plate a, total-cut plate (suc a), total-lost (plate-grid plate) (area-attribute n) (plate-nodes plate) a h)
+      omega (arith, total-cut plate a, total-cut plate (suc a), total-lost (plate-grid plate) (plate-attribute plate) (plate-nodes plate) a h)
 
   pub losses-make-total : LossesMakeTotal k w h f
   unfolding total
   losses-make-total =
       omega (
         arith,
-        losses-total (plate-grid plate) (area-attribute n) (plate-nodes plate) (plate-some plate),
-        area-total-all (plate-grid plate) (plate-nodes plate),
+        losses-total (plate-grid plate) (plate-attribute plate) (plate-nodes plate) (plate-some plate),
+        area-total-all w h (plate .long) (plate-grid plate) (plate-nodes plate),
         ap (λ (d : ℕ). n * d) (darkest-root plate),
       )
 

@@ -48,40 +48,40 @@ module _ (k w h : ℕ) (f : List ℕ) where
 
   -- a connected set of at least the limit's pixels contains p and has no grey below t exactly when t ≤ the opened value
   abbrev pub OpenedIsGreatest : Type 0
-  OpenedIsGreatest = (limit t p : ℕ) → limit ≤ n → p < n → Region n near (grey f) limit t p ↔ t ≤ grey (opened k w limit f) p
+  OpenedIsGreatest = (limit t p : ℕ) → limit ≤ n → p < n → Region n near (grey f) limit t p ↔ t ≤ grey (opened k w h limit f) p
 
   -- the closed value is the greatest grey minus the opened value on the negative
   abbrev pub ClosedIsLeast : Type 0
   ClosedIsLeast =
-      (limit t p : ℕ) → limit ≤ n → p < n → Region n near (grey (negative f)) limit t p ↔ t ≤ greatestGrey - grey (closed k w limit f) p
+      (limit t p : ℕ) → limit ≤ n → p < n → Region n near (grey (negative f)) limit t p ↔ t ≤ greatestGrey - grey (closed k w h limit f) p
 
   -- ---- 4. the opening
 
   -- the opening is nowhere lighter than the plate
   abbrev pub OpenedNowhereLighter : Type 0
-  OpenedNowhereLighter = (limit : ℕ) → limit ≤ n → NowhereLighter (opened k w limit f) f
+  OpenedNowhereLighter = (limit : ℕ) → limit ≤ n → NowhereLighter (opened k w h limit f) f
 
   -- every regional maximum of the opening has at least the limit's pixels
   abbrev pub OpenedLargeMaxima : Type 0
-  OpenedLargeMaxima = (limit : ℕ) → limit ≤ n → LargeMaxima k w limit (opened k w limit f)
+  OpenedLargeMaxima = (limit : ℕ) → limit ≤ n → LargeMaxima k w h limit (opened k w h limit f)
 
   -- every plate with those two properties is nowhere lighter than the opening
   abbrev pub OpenedIsLightest : Type 0
   OpenedIsLightest =
-      (limit : ℕ) → limit ≤ n → (g : List ℕ) → NowhereLighter g f → LargeMaxima k w limit g → NowhereLighter g (opened k w limit f)
+      (limit : ℕ) → limit ≤ n → (g : List ℕ) → NowhereLighter g f → LargeMaxima k w h limit g → NowhereLighter g (opened k w h limit f)
 
   -- limit 1 changes nothing
   abbrev pub OpenedAtOne : Type 0
-  OpenedAtOne = opened k w 1 f ≡ f
+  OpenedAtOne = opened k w h 1 f ≡ f
 
   -- opening at a and then at b is opening at the greater
   abbrev pub OpenedTwiceIsOnce : Type 0
-  OpenedTwiceIsOnce = (a b : ℕ) → a ≤ n → b ≤ n → opened k w b (opened k w a f) ≡ opened k w (max a b) f
+  OpenedTwiceIsOnce = (a b : ℕ) → a ≤ n → b ≤ n → opened k w h b (opened k w h a f) ≡ opened k w h (max a b) f
 
   -- the opening is increasing in the plate
   abbrev pub OpenedGrows : Type 0
   OpenedGrows =
-      (limit : ℕ) → limit ≤ n → (g : List ℕ) → Plate k w h g → NowhereLighter g f → NowhereLighter (opened k w limit g) (opened k w limit f)
+      (limit : ℕ) → limit ≤ n → (g : List ℕ) → Plate k w h g → NowhereLighter g f → NowhereLighter (opened k w h limit g) (opened k w h limit f)
 
   -- ---- 5. the tree
 
@@ -160,7 +160,7 @@ module _ (k w h : ℕ) (f : List ℕ) where
   -- ---- 6. the cut of the tree is the opening
 
   abbrev pub CutEqualsOpened : Type 0
-  CutEqualsOpened = (limit : ℕ) → limit ≤ n → cut k w limit f ≡ opened k w limit f
+  CutEqualsOpened = (limit : ℕ) → limit ≤ n → cut k w h limit f ≡ opened k w h limit f
 
   -- ---- 7. sums
 
@@ -168,29 +168,30 @@ module _ (k w h : ℕ) (f : List ℕ) where
   abbrev pub CutIsSum : Type 0
   CutIsSum =
       (limit p : ℕ) → limit ≤ n → p < n
-      → grey (cut k w limit f) p
-      ≡ sum (length xs) (λ (j : ℕ). pick (holds n near (grey f) xs j p && leb limit (areaOf n near (grey f) xs j)) (rise n near (grey f) xs j) 0)
+      → grey (cut k w h limit f) p
+      ≡ sum (length xs) (λ (j : ℕ).
+      pick (holds n near (grey f) xs j p && leb limit (attribute w h (holds n near (grey f) xs j))) (rise n near (grey f) xs j) 0)
 
   -- the total of a cut is the sum over the qualifying nodes of area times rise
   abbrev pub CutTotal : Type 0
   CutTotal =
       (limit : ℕ) → limit ≤ n
-      → total (cut k w limit f)
-      ≡ sum (length xs) (λ (j : ℕ). pick (leb limit (areaOf n near (grey f) xs j)) (areaOf n near (grey f) xs j * rise n near (grey f) xs j) 0)
+      → total (cut k w h limit f)
+      ≡ sum (length xs) (λ (j : ℕ). pick (leb limit (attribute w h (holds n near (grey f) xs j))) (areaOf n near (grey f) xs j * rise n near (grey f) xs j) 0)
 
-  -- the grey lost at a is that sum over the nodes of area a; with the total of the cut at a + 1 it makes the total of the cut at a
+  -- the grey lost at a is that sum over the nodes whose attribute is a; with the total of the cut at a + 1 it makes the total of the cut at a
   abbrev pub LostIsSum : Type 0
   LostIsSum =
       (a : ℕ) → a < n
-      → lostAt n near (grey f) xs (attribute n) a
-      ≡ sum (length xs) (λ (j : ℕ). pick (eqb (areaOf n near (grey f) xs j) a) (areaOf n near (grey f) xs j * rise n near (grey f) xs j) 0)
+      → lostAt n near (grey f) xs (attribute w h) a
+      ≡ sum (length xs) (λ (j : ℕ). pick (eqb (attribute w h (holds n near (grey f) xs j)) a) (areaOf n near (grey f) xs j * rise n near (grey f) xs j) 0)
 
   abbrev pub LostMakesCut : Type 0
-  LostMakesCut = (a : ℕ) → a < n → lostAt n near (grey f) xs (attribute n) a + total (cut k w (suc a) f) ≡ total (cut k w a f)
+  LostMakesCut = (a : ℕ) → a < n → lostAt n near (grey f) xs (attribute w h) a + total (cut k w h (suc a) f) ≡ total (cut k w h a f)
 
   -- all losses plus darkest grey times pixels make the plate's total
   abbrev pub LossesMakeTotal : Type 0
-  LossesMakeTotal = sum (n - 1) (λ (i : ℕ). lostAt n near (grey f) xs (attribute n) (suc i)) + n * darkest f ≡ total f
+  LossesMakeTotal = sum (n - 1) (λ (i : ℕ). lostAt n near (grey f) xs (attribute w h) (suc i)) + n * darkest f ≡ total f
 
   -- ---- 8. marks: 1 exactly where the outside neighbours of the pixel's flat zone are all strictly darker, else 0
 

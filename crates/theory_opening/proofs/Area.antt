@@ -1,9 +1,9 @@
 -- The area is an attribute, and the specification's words for the area opening: a connected set of at least the limit's distinct pixels.
 use mathlib.Core.Logic.{_↔_}
 use mathlib.Core.Bool.{Bool, true}
-use Prim.Native.Nat.{ℕ, _≤_, _<_}
+use Prim.Native.Nat.{ℕ, _*_, _≤_, _<_}
 use native.Mathlib.Nat.{le-of-eq}
-use mathlib.Core.Path.{sym}
+use mathlib.Core.Path.{_≡_, sym, subst}
 use lib.Dec.{T, leb→le}
 use Rattle.meaning.specs.Opening.{Attribute, Qualifying, Region, atLeast, attribute, openedAt}
 use Rattle.meaning.specs.Paths.{Grid}
@@ -16,15 +16,19 @@ use Rattle.theory_lists.proofs.Tests.{orders}
 use Rattle.theory_opening.proofs.Attribute.{attribute-criterion}
 use Rattle.theory_opening.proofs.Opening.{opened-words}
 
-pub area-attribute : (n : ℕ) → Attribute n (attribute n)
-area-attribute n = record {
+area-is : (n : ℕ) → Attribute n (area n)
+area-is n = record {
   increasing = area-mono n;
   positive = area-pos n;
   all = le-of-eq (sym (area-all n (λ (q : ℕ). true) (λ q l. tt)));
 }
 
+-- that of a plate's sizes
+pub area-attribute : {n : ℕ} (w h : ℕ) → n ≡ w * h → Attribute n (attribute w h)
+area-attribute {n} w h e = subst (λ (m : ℕ). Attribute n (area m)) e (area-is n)
+
 module _ {n : ℕ} {near : ℕ → ℕ → Bool} (f : ℕ → ℕ) (limit t p : ℕ) where
-  region-qualifying : Region n near f limit t p → Qualifying n near (atLeast (attribute n) limit) f t p
+  region-qualifying : Region n near f limit t p → Qualifying n near (atLeast (area n) limit) f t p
   region-qualifying r = record {
     set = elem (r .pixels);
     holds = r .holds;
@@ -33,7 +37,7 @@ module _ {n : ℕ} {near : ℕ → ℕ → Bool} (f : ℕ → ℕ) (limit t p : 
     connected = λ a b la lb u v. r .connected a b u v;
   }
 
-  qualifying-region : p < n → Qualifying n near (atLeast (attribute n) limit) f t p → Region n near f limit t p
+  qualifying-region : p < n → Qualifying n near (atLeast (area n) limit) f t p → Region n near f limit t p
   qualifying-region l s =
       let out : (q : ℕ) → T (elem (rising n (s .set)) q) → (q < n) × T (s .set q) = rising-sound n (s .set) in
       record {
@@ -49,7 +53,9 @@ module _ {n : ℕ} {near : ℕ → ℕ → Bool} (f : ℕ → ℕ) (limit t p : 
       }
 
   -- some connected set of at least the limit's pixels holds p and has no grey below t exactly when t is at most the opened value
-  pub area-words : Grid n near → limit ≤ n → p < n → Region n near f limit t p ↔ t ≤ openedAt n near (atLeast (attribute n) limit) f p
-  area-words grid h l =
-      let e = opened-words grid (attribute-criterion (area-attribute n) limit h) f t p l in
-      (λ r. e .0 (region-qualifying r), λ k. qualifying-region l (e .1 k))
+  pub area-words : (w h : ℕ) → n ≡ w * h → Grid n near → limit ≤ n → p < n
+      → Region n near f limit t p ↔ t ≤ openedAt n near (atLeast (attribute w h) limit) f p
+  area-words w h e grid m l =
+      let o = opened-words grid (attribute-criterion (area-is n) limit m) f t p l in
+      subst (λ (m : ℕ). Region n near f limit t p ↔ t ≤ openedAt n near (atLeast (area m) limit) f p) e
+      (λ r. o .0 (region-qualifying r), λ k. qualifying-region l (o .1 k))

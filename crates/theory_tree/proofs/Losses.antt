@@ -132,19 +132,20 @@ module _ {n : ℕ} {near : ℕ → ℕ → Bool} {att : (ℕ → Bool) → ℕ} 
 
 -- ---- the area
 
-module _ {n : ℕ} {near : ℕ → ℕ → Bool} (grid : Grid n near) {f : ℕ → ℕ} {xs : List ℕ} (nodes : Nodes n near f xs) where
+module _ {n : ℕ} (w h : ℕ) (e : n ≡ w * h) {near : ℕ → ℕ → Bool} (grid : Grid n near) {f : ℕ → ℕ} {xs : List ℕ} (nodes : Nodes n near f xs) where
   -- the cut at n is the root's level, the darkest grey, everywhere
-  pub area-all-darkest : (p : ℕ) → p < n → cutAt n near f xs (atLeast (attribute n) n) p ≡ f (nth xs 0)
+  pub area-all-darkest : (p : ℕ) → p < n → cutAt n near f xs (atLeast (attribute w h) n) p ≡ f (nth xs 0)
   area-all-darkest p l =
-      let c = attribute-criterion (area-attribute n) n (le-refl n) in
-      let t : ℕ = openedAt n near (atLeast (attribute n) n) f p in
+      let c = attribute-criterion (area-attribute w h e) n (le-refl n) in
+      let t : ℕ = openedAt n near (atLeast (attribute w h) n) f p in
       let a : ℕ = nth xs 0 in
       let la : a < n = nth-inside grid nodes 0 (some-node grid nodes p l) in
-      let full : n ≤ area n (has (patch n near f t p)) = leb→le n (area n (has (patch n near f t p))) (opened-kept grid c f t p l (le-refl t)) in
+      let s : ℕ → Bool = has (patch n near f t p) in
+      let full : n ≤ area n s = rw (← e) at (leb→le n (attribute w h s) (opened-kept grid c f t p l (le-refl t))) in
       cut-opened grid c nodes p l
       ∙ le-antisymm
-      (leb→le t (f a) (end-ok (patch-joined grid f t p a la (area-full n (has (patch n near f t p)) full a la))))
+      (leb→le t (f a) (end-ok (patch-joined grid f t p a la (area-full n s full a la))))
       (live-level grid c nodes p 0 l (live-root grid c nodes p l))
 
-  pub area-total-all : sum n (cutAt n near f xs (atLeast (attribute n) n)) ≡ n * f (nth xs 0)
-  area-total-all = sum-cong n (cutAt n near f xs (atLeast (attribute n) n)) (λ (p : ℕ). f (nth xs 0)) area-all-darkest ∙ sum-const n (f (nth xs 0))
+  pub area-total-all : sum n (cutAt n near f xs (atLeast (attribute w h) n)) ≡ n * f (nth xs 0)
+  area-total-all = sum-cong n (cutAt n near f xs (atLeast (attribute w h) n)) (λ (p : ℕ). f (nth xs 0)) area-all-darkest ∙ sum-const n (f (nth xs 0))
