@@ -7,8 +7,9 @@ use lib.Dec.{eqb}
 use lib.ListN.{length, drop, replicate}
 use borrow.Author.Tests.{ne-eqb}
 use Rattle.meaning.specs.Nodes.{areaOf, levelOf, parent}
-use Rattle.work_columns.specs.Layout.{ANCHOR, AREA, LEVEL, PARENT}
-use Rattle.plate_greys.specs.Tree.{PlateTree}
+use Rattle.work_columns.specs.Layout.{ANCHOR, AREA, LEVEL, PARENT, shapeOf}
+use Rattle.maxtree_columns.proofs.Tree.{few-nodes}
+use Rattle.plate_tree.specs.PlateTree.{PlateTree}
 use Rattle.plate_tree.specs.Listing.{Started}
 use Rattle.plate_tree.proofs.Starting.{list-done, list-refused}
 use Rattle.plate_filter.specs.Operations.{Columns, ColumnsWritten, Lent, NodesListed, anchorOf, placesOf}
@@ -21,19 +22,19 @@ module _ {k w h : ℕ} {f work w₁ : List ℕ} (out : Columns) {r count : ℕ} 
       record { answer = list-refused s x; levels = rw z; parents = rw z; areas = rw z; anchors = rw z }
 
   module _ (z : r ≡ 0) where
-    p : PlateTree false k w h f work w₁ count
+    p : PlateTree false (shapeOf (length f) w h k) f work w₁ count
     p = s .tree-stands z
 
     pub listed-lent : Lent (length f) count w₁ out
-    listed-lent = record { room = p .room; few = p .facts .few-nodes; places = s .fits }
+    listed-lent = record { room = p .tree .room; few = few-nodes (p .tree); places = s .fits }
 
     -- the columns
     pub listed-done : {w₂ : List ℕ} {out′ : Columns} → ColumnsWritten (length f) count w₁ out out′
         → w₂ ≡ replicate (8 * length f) 0 ++ drop (8 * length f) w₁ → NodesListed k w h f out out′ work w₂ r count
     listed-done d c = record {
       answer = list-done s z c;
-      levels = d .levels ∙ rw (z, listed p LEVEL levelOf (p .facts .tree .level-is));
-      parents = d .parents ∙ rw (z, listed p PARENT parent (p .facts .tree .parent-is));
-      areas = d .areas ∙ rw (z, listed p AREA areaOf (p .facts .tree .area-is));
-      anchors = d .anchors ∙ rw (z, listed p ANCHOR anchorOf (p .facts .tree .anchor-is));
+      levels = d .levels ∙ rw (z, listed (p .tree) LEVEL levelOf (p .tree .level-is));
+      parents = d .parents ∙ rw (z, listed (p .tree) PARENT parent (p .tree .parent-is));
+      areas = d .areas ∙ rw (z, listed (p .tree) AREA areaOf (p .tree .area-is));
+      anchors = d .anchors ∙ rw (z, listed (p .tree) ANCHOR anchorOf (p .tree .anchor-is));
     }

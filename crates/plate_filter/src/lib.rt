@@ -38,8 +38,9 @@ pub fn clean(
         return refusal;
     }
     let negated = side == DARK;
-    let count = plate_tree::plate_tree(image, negated, width, height, connectivity, work);
-    maxtree_values::cut_values(work, n, count, limit as usize);
+    let g = work_columns::shape_of(n, width, height, connectivity);
+    let count = plate_tree::plate_tree(image, negated, g, work);
+    maxtree_values::cut_values(work, g, count, limit as usize);
     maxtree_values::deliver(work, n, negated, out);
     0
 }
@@ -68,8 +69,9 @@ pub fn regional_maxima(
     if refusal != 0 {
         return refusal;
     }
-    let count = plate_tree::plate_tree(image, false, width, height, connectivity, work);
-    maxtree_values::mark_leaves(work, n, count);
+    let g = work_columns::shape_of(n, width, height, connectivity);
+    let count = plate_tree::plate_tree(image, false, g, work);
+    maxtree_values::mark_leaves(work, g, count);
     maxtree_values::deliver(work, n, false, out);
     0
 }

@@ -1,3 +1,3 @@
--- From the tree in the work space to the nodes of the definition.
-pub mod Nodes
+-- From a plate to its tree, and the node list that starts from it.
+pub mod Building
 pub mod Starting

@@ -2,7 +2,7 @@
 use mathlib.Core.Path.{_≡_, refl, sym, _∙_}
 use mathlib.Core.Bool.{false}
 use mathlib.Core.List.{List, _++_}
-use Prim.Native.Nat.{ℕ, _*_}
+use Prim.Native.Nat.{ℕ, _*_, _<_}
 use native.Mathlib.Omega.{arith}
 use lib.Dec.{eqb}
 use lib.ListN.{length, drop, replicate}
@@ -10,9 +10,13 @@ use borrow.Author.Tests.{ne-eqb}
 use Rattle.meaning.specs.Answers.{outRefusal, plateRefusal, workRefusal}
 use Rattle.meaning.specs.Nodes.{nodesOf}
 use Rattle.plate_refusals.proofs.Refusals.{Listable, out-met, out-none, plate-later, tree-early, tree-first, tree-later, tree-none}
-use Rattle.plate_greys.specs.Tree.{PlateTree, PlateReady}
+use Rattle.work_columns.specs.Columns.{Room}
+use Rattle.work_columns.specs.Layout.{shapeOf}
+use Rattle.work_columns.specs.declared.Shape.{Shape}
+use Rattle.maxtree_columns.proofs.Tree.{few-nodes}
+use Rattle.plate_tree.specs.PlateTree.{PlateReady, PlateTree}
 use Rattle.plate_tree.specs.Listing.{ListAnswered, Started, nodeListRefusal}
-use Rattle.plate_tree.proofs.Nodes.{cleared-space, listed-count}
+use Rattle.plate_tree.proofs.Building.{cleared-space}
 
 -- r: what was found to be the refusal by 1, 2, 3 and 6
 module _ (k w h : ℕ) (f work : List ℕ) (places : ℕ) {r : ℕ} (e : r ≡ plateRefusal k w h f (workRefusal (w * h) (length work) 0)) where
@@ -34,33 +38,45 @@ module _ (k w h : ℕ) (f work : List ℕ) (places : ℕ) {r : ℕ} (e : r ≡ p
     listable : Listable k w h f (length work)
     listable = tree-none k w h f (length work) e z
 
-    pub started-ready : PlateReady k w h f work
-    started-ready = record { taken = plate-later (listable .taken) (λ _. 0); room = listable .space }
+    module _ {g : Shape} (shape : g ≡ shapeOf (length f) w h k) where
+      pub started-ready : PlateReady g f work
+      started-ready =
+          rw shape (record { taken = plate-later (listable .taken) (λ _. 0); pixels = refl; room = omega (arith, listable .taken .long, listable .space) })
 
-    module _ {w₁ : List ℕ} {count : ℕ} (p : PlateTree false k w h f work w₁ count) where
-      refusal-is : nodeListRefusal k w h f places (length work) ≡ outRefusal count places 0
-      unfolding nodeListRefusal
-      refusal-is = tree-later listable (length (nodesOf k w f)) places ∙ rw (listed-count p)
+      module _ {w₁ : List ℕ} {count : ℕ} (stood : PlateTree false g f work w₁ count) where
+        p : PlateTree false (shapeOf (length f) w h k) f work w₁ count
+        p = rw shape at stood
 
-      -- 5: too few places
-      pub started-short : {q : ℕ} {w₂ : List ℕ} → q ≡ outRefusal count places 0 → (q ≡ 0 → ⊥)
-          → w₂ ≡ replicate (8 * length f) 0 ++ drop (8 * length f) w₁ → Started k w h f places work w₂ q 0
-      started-short q x c = record {
-        number = q ∙ sym refusal-is;
-        counted = rw (ne-eqb _ 0 x);
-        fits = omega arith;
-        stopped = λ _. rw (q ∙ out-met count places (λ u. x (q ∙ u))) (cleared-space (p .plate) (p .frame) c);
-        tree-stands = λ u. absurd (x u);
-      }
+        -- there are columns to clear, and the count fits an answer
+        pub started-room : Room w₁ (length f)
+        started-room = p .tree .room
 
-      pub started-done : {q : ℕ} → q ≡ outRefusal count places 0 → q ≡ 0 → Started k w h f places work w₁ 0 count
-      started-done q u = record {
-        number = sym (refusal-is ∙ sym q ∙ u);
-        counted = listed-count p;
-        fits = out-none count places 0 (sym q ∙ u) .0;
-        stopped = λ x. absurd (x refl);
-        tree-stands = λ _. p;
-      }
+        pub started-count : count < 4294967296
+        started-count = omega (arith, few-nodes (p .tree), p .tree .room .small)
+
+        refusal-is : nodeListRefusal k w h f places (length work) ≡ outRefusal count places 0
+        unfolding nodeListRefusal
+        refusal-is = tree-later listable (length (nodesOf k w f)) places ∙ rw (p .tree .nodes)
+
+        -- 5: too few places
+        pub started-short : {q : ℕ} {w₂ : List ℕ} → q ≡ outRefusal count places 0 → (q ≡ 0 → ⊥)
+            → w₂ ≡ replicate (8 * length f) 0 ++ drop (8 * length f) w₁ → Started k w h f places work w₂ q 0
+        started-short q x c = record {
+          number = q ∙ sym refusal-is;
+          counted = rw (ne-eqb _ 0 x);
+          fits = omega arith;
+          stopped = λ _. rw (q ∙ out-met count places (λ u. x (q ∙ u))) (cleared-space (p .plate) (p .frame) c);
+          tree-stands = λ u. absurd (x u);
+        }
+
+        pub started-done : {q : ℕ} → q ≡ outRefusal count places 0 → q ≡ 0 → Started k w h f places work w₁ 0 count
+        started-done q u = record {
+          number = sym (refusal-is ∙ sym q ∙ u);
+          counted = p .tree .nodes;
+          fits = out-none count places 0 (sym q ∙ u) .0;
+          stopped = λ x. absurd (x refl);
+          tree-stands = λ _. p;
+        }
 
 -- what the list answers
 module _ {k w h : ℕ} {f work w₁ : List ℕ} {places r count : ℕ} (s : Started k w h f places work w₁ r count) where

@@ -1,2 +1,3 @@
--- What a node list answers.
+-- The tree of a plate, and what a node list answers.
+pub mod PlateTree
 pub mod Listing

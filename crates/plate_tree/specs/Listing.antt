@@ -9,7 +9,8 @@ use Rattle.meaning.specs.Answers.{began, treeRefusal, workAfter}
 use Rattle.meaning.specs.Nodes.{nodesOf}
 use Rattle.meaning.specs.Plate.{Plate}
 use Rattle.meaning.specs.Sets.{pick}
-use Rattle.plate_greys.specs.Tree.{PlateTree}
+use Rattle.work_columns.specs.Layout.{shapeOf}
+use Rattle.plate_tree.specs.PlateTree.{PlateTree}
 
 -- 1, 2, 3, 6, then 5 where there are fewer places than nodes
 unfoldable pub nodeListRefusal : ℕ → ℕ → ℕ → List ℕ → ℕ → ℕ → ℕ
@@ -32,4 +33,4 @@ pub record Started (k w h : ℕ) (f : List ℕ) (places : ℕ) (work work′ : L
   pub counted : count ≡ nodeCount k w f refusal
   pub fits : count ≤ places
   pub stopped : (refusal ≡ 0 → ⊥) → work′ ≡ workAfter (began refusal) (w * h) work
-  pub tree-stands : refusal ≡ 0 → PlateTree false k w h f work work′ count
+  pub tree-stands : refusal ≡ 0 → PlateTree false (shapeOf (length f) w h k) f work work′ count

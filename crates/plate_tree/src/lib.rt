@@ -1,29 +1,16 @@
 // The component tree of a plate, from the plate to the columns of the work space, and the start of a node list from it.
 ghost use mathlib.Core.Path.{_≡_};
-ghost use Rattle.plate_greys.specs.Tree.{PlateReady, PlateTree};
+ghost use Rattle.plate_tree.specs.PlateTree.{PlateReady, PlateTree};
 ghost use Rattle.plate_tree.specs.Listing.{Started};
+use work_columns::Shape;
 
 // Builds the component tree of a plate, or of its negative, in the work space. Returns the number of nodes.
-pub fn plate_tree(
-    image: &[u8],
-    negated: bool,
-    width: u32,
-    height: u32,
-    connectivity: u32,
-    work: &mut [u32],
-) -> usize
-    requires { ⌜ PlateReady connectivity width height (now image) (now work) ⌝ }
-    ensures { λ r. ⌜ PlateTree negated connectivity width height (now (image .entry)) (now (work .entry)) (now (work .exit)) r ⌝ }
+pub fn plate_tree(image: &[u8], negated: bool, g: Shape, work: &mut [u32]) -> usize
+    requires { ⌜ PlateReady g (now image) (now work) ⌝ }
+    ensures { λ r. ⌜ PlateTree negated g (now (image .entry)) (now (work .entry)) (now (work .exit)) r ⌝ }
 {
     plate_greys::load(image, negated, work);
-    let n = image.len();
-    maxtree::build_tree(
-        work,
-        n,
-        width as usize,
-        height as usize,
-        connectivity as usize,
-    )
+    maxtree::build_tree(work, g)
 }
 
 // What the node list answers: its refusal, or 0 and the number of nodes.
@@ -60,7 +47,8 @@ pub fn start_list(
     if refusal != 0 {
         return refused(refusal);
     }
-    let count = plate_tree(image, false, width, height, connectivity, work);
+    let g = work_columns::shape_of(n, width, height, connectivity);
+    let count = plate_tree(image, false, g, work);
     let short = plate_refusals::out_refusal(count, places);
     if short != 0 {
         work_columns::clear(work, n);

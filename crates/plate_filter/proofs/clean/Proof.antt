@@ -7,9 +7,9 @@ use denote.Ref.{now}
 use lib.ListN.{length}
 use Rattle.plate_filter.proofs.clean.Statement.{statement}
 use Rattle.plate_filter.proofs.clean.Tie as tie
-use Rattle.work_columns.proofs.Columns.{before, frame-trans}
-use Rattle.plate_refusals.proofs.Refusals.{Filterable, clean-none, plate-later}
-use Rattle.plate_filter.proofs.Results.{answered, answered-refused, cut-answer, cut-writable, plate-tree-parents}
+use Rattle.maxtree_columns.proofs.Tree.{tree-here}
+use Rattle.plate_refusals.proofs.Refusals.{Filterable, clean-none}
+use Rattle.plate_filter.proofs.Results.{answered, answered-refused, cleaned-is, pixels-are, ready, written-able}
 
 clean-refusal-requires : tie.Need-clean-refusal-requires
 clean-refusal-requires c κs = search needs
@@ -29,19 +29,37 @@ sized c =
 limit-fits : (c : tie.Else1) → let s = c .before .before .before .before .before .args in s .limit ≤ length (now (s .image))
 limit-fits c = let z = sized c in omega (arith, z .limit-high, z .taken .long)
 
+shape-of-requires : tie.Need-shape-of-requires
+shape-of-requires c κs = search needs
+
 plate-tree-requires : tie.Need-plate-tree-requires
 plate-tree-requires c κs =
-    let z = sized (c .before) in
-    record { taken = plate-later (z .taken) (λ _. 0); room = z .space }
+    let e = c .before .before in
+    let s = e .before .before .before .before .before .args in
+    let z = sized e in
+    ready (s .connectivity) (s .width) (s .height) (now (s .image)) (c .before .shape-of .ensures) (z .taken) (z .space)
 
 cut-values-requires : tie.Need-cut-values-requires
-cut-values-requires c κs = plate-tree-parents (c .before .before .before .plate-tree .ensures)
+cut-values-requires c κs =
+    let p = c .before .before .before in
+    let e = p .before .before .before in
+    let s = e .before .before .before .before .before .args in (
+      tree-here (p .plate-tree .ensures .tree),
+      omega (
+        arith,
+        limit-fits e,
+        pixels-are (s .connectivity) (s .width) (s .height) (now (s .image)) (p .before .before .shape-of .ensures),
+      ),
+    )
 
 deliver-requires : tie.Need-deliver-requires
 deliver-requires c κs =
     let t = c .before .before .before .before in
-    let z = sized (t .before .before .before .before .before .before) in (
-      cut-writable (t .before .before .before .before .plate-tree .ensures) (limit-fits (t .before .before .before .before .before .before))
+    let p = t .before .before .before .before in
+    let e = p .before .before .before in
+    let s = e .before .before .before .before .before .args in
+    let z = sized e in (
+      written-able (s .connectivity) (s .width) (s .height) (now (s .image)) (p .before .before .shape-of .ensures) (p .plate-tree .ensures)
           (t .cut-values .ensures),
       omega (arith, z .room, z .taken .long),
     )
@@ -57,12 +75,12 @@ returns-2 c =
     let d = c .before .before .before .before in
     let t = d .before .before .before .before .before in
     let p = t .before .before .before .before in
-    let e = p .before .before in
+    let e = p .before .before .before in
     let s = e .before .before .before .before .before .args in
-    answered (e .before .clean-refusal .ensures) (e .if1 .left) (p .plate-tree .ensures .plate)
-    (frame-trans (p .plate-tree .ensures .frame) (t .cut-values .ensures .valued .frame))
-    (d .deliver .ensures)
-    (cut-answer (p .plate-tree .ensures) (limit-fits e) (t .cut-values .ensures) (s .side) refl)
+    let shape = p .before .before .shape-of .ensures in
+    rw (← cleaned-is (s .connectivity) (s .width) (s .height) (now (s .image)) shape (p .plate-tree .ensures) (s .side) (s .limit) refl (limit-fits e))
+    (answered (s .connectivity) (s .width) (s .height) (now (s .image)) shape (p .plate-tree .ensures) (t .cut-values .ensures)
+    (e .before .clean-refusal .ensures) (e .if1 .left) (d .deliver .ensures))
 
 pub clean-spec : {M : Type 1} → statement M
 clean-spec =
@@ -70,6 +88,7 @@ clean-spec =
     (tie.spec
     clean-refusal-requires
     returns
+    shape-of-requires
     plate-tree-requires
     cut-values-requires
     deliver-requires

@@ -39,7 +39,7 @@ clear-requires : tie.Need-clear-requires
 clear-requires c κs =
     let e = c .before .before .before .before .before .before .before .before .before .before .before .before .before .before .before .before in
     let l = e .before .before .before .before in
-    l .start-list .ensures .tree-stands (e .if1 .left) .room
+    l .start-list .ensures .tree-stands (e .if1 .left) .tree .room
 
 same-length-2 : tie.Need-same-length-2
 same-length-2 c = search needs

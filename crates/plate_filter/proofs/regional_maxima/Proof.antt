@@ -6,9 +6,9 @@ use denote.Ref.{now}
 use lib.ListN.{length}
 use Rattle.plate_filter.proofs.regional_maxima.Statement.{statement}
 use Rattle.plate_filter.proofs.regional_maxima.Tie as tie
-use Rattle.work_columns.proofs.Columns.{before, frame-trans}
-use Rattle.plate_refusals.proofs.Refusals.{Markable, maxima-none, plate-later}
-use Rattle.plate_filter.proofs.Results.{answered, answered-refused, mark-answer, mark-writable, plate-tree-parents}
+use Rattle.maxtree_columns.proofs.Tree.{tree-here}
+use Rattle.plate_refusals.proofs.Refusals.{Markable, maxima-none}
+use Rattle.plate_filter.proofs.Results.{answered, answered-refused, marks-are, ready, written-able}
 
 maxima-refusal-requires : tie.Need-maxima-refusal-requires
 maxima-refusal-requires c κs = search needs
@@ -25,19 +25,30 @@ sized c =
     maxima-none (s .connectivity) (s .width) (s .height) (now (s .image)) (length (now (s .out))) (length (now (s .work)))
     (sym (c .before .maxima-refusal .ensures) ∙ c .if1 .left)
 
+shape-of-requires : tie.Need-shape-of-requires
+shape-of-requires c κs = search needs
+
 plate-tree-requires : tie.Need-plate-tree-requires
 plate-tree-requires c κs =
-    let z = sized (c .before) in
-    record { taken = plate-later (z .taken) (λ _. 0); room = z .space }
+    let e = c .before .before in
+    let s = e .before .before .before .before .before .args in
+    let z = sized e in
+    ready (s .connectivity) (s .width) (s .height) (now (s .image)) (c .before .shape-of .ensures) (z .taken) (z .space)
 
 mark-leaves-requires : tie.Need-mark-leaves-requires
-mark-leaves-requires c κs = plate-tree-parents (c .before .before .before .plate-tree .ensures)
+mark-leaves-requires c κs = tree-here (c .before .before .before .plate-tree .ensures .tree)
 
 deliver-requires : tie.Need-deliver-requires
 deliver-requires c κs =
     let t = c .before .before .before .before in
-    let z = sized (t .before .before .before .before .before .before) in
-    (mark-writable (t .before .before .before .before .plate-tree .ensures) (t .mark-leaves .ensures), omega (arith, z .room, z .taken .long))
+    let p = t .before .before .before .before in
+    let e = p .before .before .before in
+    let s = e .before .before .before .before .before .args in
+    let z = sized e in (
+      written-able (s .connectivity) (s .width) (s .height) (now (s .image)) (p .before .before .shape-of .ensures) (p .plate-tree .ensures)
+          (t .mark-leaves .ensures),
+      omega (arith, z .room, z .taken .long),
+    )
 
 same-length : tie.Need-same-length
 same-length c = search needs
@@ -50,11 +61,12 @@ returns-2 c =
     let d = c .before .before .before .before in
     let t = d .before .before .before .before .before in
     let p = t .before .before .before .before in
-    let e = p .before .before in
-    answered (e .before .maxima-refusal .ensures) (e .if1 .left) (p .plate-tree .ensures .plate)
-    (frame-trans (p .plate-tree .ensures .frame) (t .mark-leaves .ensures .valued .frame))
-    (d .deliver .ensures)
-    (mark-answer (p .plate-tree .ensures) (t .mark-leaves .ensures))
+    let e = p .before .before .before in
+    let s = e .before .before .before .before .before .args in
+    let shape = p .before .before .shape-of .ensures in
+    rw (← marks-are (s .connectivity) (s .width) (s .height) (now (s .image)) shape (p .plate-tree .ensures))
+    (answered (s .connectivity) (s .width) (s .height) (now (s .image)) shape (p .plate-tree .ensures) (t .mark-leaves .ensures)
+    (e .before .maxima-refusal .ensures) (e .if1 .left) (d .deliver .ensures))
 
 pub regional-maxima-spec : {M : Type 1} → statement M
 regional-maxima-spec =
@@ -62,6 +74,7 @@ regional-maxima-spec =
     (tie.spec
     maxima-refusal-requires
     returns
+    shape-of-requires
     plate-tree-requires
     mark-leaves-requires
     deliver-requires

@@ -2,7 +2,7 @@
 use borrow.Author.Needs.{needs}
 use Rattle.plate_tree.proofs.plate_tree.Statement.{statement}
 use Rattle.plate_tree.proofs.plate_tree.Tie as tie
-use Rattle.plate_greys.proofs.Tree.{tree-stands, ready-buildable, ready-room}
+use Rattle.plate_tree.proofs.Building.{tree-stands, ready-buildable, ready-room}
 
 load-requires : tie.Need-load-requires
 load-requires c κs = ready-room (c .before .before .before .pre)

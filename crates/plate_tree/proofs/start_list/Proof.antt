@@ -1,9 +1,10 @@
 -- `plate_tree::start_list` meets its contract.
+use native.Mathlib.Omega.{arith}
 use borrow.Author.Needs.{needs}
 use denote.Ref.{now}
 use Rattle.plate_tree.proofs.start_list.Statement.{statement}
 use Rattle.plate_tree.proofs.start_list.Tie as tie
-use Rattle.plate_tree.proofs.Starting.{started-done, started-ready, started-refused, started-short}
+use Rattle.plate_tree.proofs.Starting.{started-count, started-done, started-ready, started-refused, started-room, started-short}
 
 tree-refusal-requires : tie.Need-tree-refusal-requires
 tree-refusal-requires c κs = search needs
@@ -18,17 +19,26 @@ returns c =
     (started-refused (s .connectivity) (s .width) (s .height) (now (s .image)) (now (s .work)) (s .places)
     (c .before .before .tree-refusal .ensures) (c .before .if1 .taken))
 
+shape-of-requires : tie.Need-shape-of-requires
+shape-of-requires c κs = search needs
+
 plate-tree-requires : tie.Need-plate-tree-requires
 plate-tree-requires c κs =
-    let s = c .before .before .before .before .before .args in
+    let e = c .before .before in
+    let s = e .before .before .before .before .args in
     started-ready (s .connectivity) (s .width) (s .height) (now (s .image)) (now (s .work)) (s .places)
-    (c .before .before .tree-refusal .ensures) (c .before .if1 .left)
+    (e .before .tree-refusal .ensures) (e .if1 .left) (c .before .shape-of .ensures)
 
 out-refusal-requires : tie.Need-out-refusal-requires
 out-refusal-requires c κs = search needs
 
 clear-requires : tie.Need-clear-requires
-clear-requires c κs = search needs
+clear-requires c κs =
+    let p = c .before .before .before .before .before in
+    let e = p .before .before .before in
+    let s = e .before .before .before .before .args in
+    started-room (s .connectivity) (s .width) (s .height) (now (s .image)) (now (s .work)) (s .places)
+    (e .before .tree-refusal .ensures) (e .if1 .left) (p .before .before .shape-of .ensures) (p .plate-tree .ensures)
 
 refused-requires-2 : tie.Need-refused-requires-2
 refused-requires-2 c κs = search needs
@@ -41,15 +51,23 @@ returns-2 c =
     let t = c .before .before .before .before .before in
     let q = t .before in
     let p = q .before .before .before in
-    let e = p .before .before in
+    let e = p .before .before .before in
     let s = e .before .before .before .before .args in
     rw (c .refused2 .ensures .0, c .refused2 .ensures .1)
     (started-short (s .connectivity) (s .width) (s .height) (now (s .image)) (now (s .work)) (s .places)
-    (e .before .tree-refusal .ensures) (e .if1 .left) (p .plate-tree .ensures)
+    (e .before .tree-refusal .ensures) (e .if1 .left) (p .before .before .shape-of .ensures) (p .plate-tree .ensures)
     (q .out-refusal .ensures) (t .if2 .taken) (c .before .before .before .clear .ensures))
 
-cast-t18 : tie.Need-cast-t18
-cast-t18 c = search needs
+cast-t19 : tie.Need-cast-t19
+cast-t19 c =
+    let p = c .before .before .before .before in
+    let e = p .before .before .before in
+    let s = e .before .before .before .before .args in
+    omega (
+      arith,
+      started-count (s .connectivity) (s .width) (s .height) (now (s .image)) (now (s .work)) (s .places)
+          (e .before .tree-refusal .ensures) (e .if1 .left) (p .before .before .shape-of .ensures) (p .plate-tree .ensures),
+    )
 
 same-length-2 : tie.Need-same-length-2
 same-length-2 c = search needs
@@ -58,10 +76,10 @@ returns-3 : tie.Need-returns-3
 returns-3 c =
     let q = c .before in
     let p = q .before .before .before in
-    let e = p .before .before in
+    let e = p .before .before .before in
     let s = e .before .before .before .before .args in
     started-done (s .connectivity) (s .width) (s .height) (now (s .image)) (now (s .work)) (s .places)
-    (e .before .tree-refusal .ensures) (e .if1 .left) (p .plate-tree .ensures) (q .out-refusal .ensures) (c .if2 .left)
+    (e .before .tree-refusal .ensures) (e .if1 .left) (p .before .before .shape-of .ensures) (p .plate-tree .ensures) (q .out-refusal .ensures) (c .if2 .left)
 
 pub start-list-spec : {M : Type 1} → statement M
 start-list-spec =
@@ -70,12 +88,13 @@ start-list-spec =
     tree-refusal-requires
     refused-requires
     returns
+    shape-of-requires
     plate-tree-requires
     out-refusal-requires
     clear-requires
     refused-requires-2
     same-length
     returns-2
-    cast-t18
+    cast-t19
     same-length-2
     returns-3)
