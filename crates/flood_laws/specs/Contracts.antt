@@ -220,21 +220,15 @@ module _ (g : Shape) where
   abbrev pub LowerRow : ℕ → ℕ → Type 0
   LowerRow p q = (Beside wd 2 p q ⊎ Beside wd 5 p q) ⊎ Beside wd 7 p q
 
-  -- the current pixel is done, or the flood has risen to r
+  -- some pixels are visited, none is current, and the lightest open level is r
   pub record Visited (w w′ t t′ : List ℕ) (r : ℕ) : Type 0 where
     pub kept : Kept n w w′ t t′
     pub less : left n w′ t′ ≤ left n w t
     pub ready : Ready w′ t′ r
 
-  -- the pixel of the entry e is the current one
-  pub record Popped (w t : List ℕ) (h e : ℕ) : Type 0 where
-    pub machine : Machine w t (h + 1) (pixelOf wd n e)
-    pub current : pixelOf wd n e < n
-    pub high : col GREY n w (pixelOf wd n e) ≡ h
-
   -- the pixel of the entry e is taken off the stack of the lightest open level h: it is the current one, and less is left to do
   pub record Taken (w t t′ : List ℕ) (h e : ℕ) : Type 0 where
-    pub popped : Popped w t′ h e
+    pub looking : Looking w t′ h (e % 65536) (e / 65536)
     pub table : Frame LEVELS t t′
     pub less : left n w t′ < left n w t
 
