@@ -7,12 +7,16 @@ use native.Mathlib.Numerals.{add-one}
 use native.Mathlib.Omega.{arith}
 use lib.ListN.{length, length-append, List·getD-append}
 use lib.Seq.{getD-append-add}
+use Rattle.meaning.specs.Plate.{maxPixels}
 use Rattle.meaning.specs.Sets.{gather, nth, table}
 use Rattle.theory_lists.proofs.Lists.{getD-table, length-table}
 use Rattle.theory_lists.proofs.Sets.{below-suc}
 use Rattle.work_columns.specs.Columns.{col}
 use Rattle.work_columns.specs.Layout.{AREA, LEVEL, OWN, PARENT}
-use Rattle.record_fields.specs.Fields.{ParentFits, columnFields, nodeColumns}
+use Rattle.work_columns.specs.declared.Shape.{Shape}
+use Rattle.maxtree_columns.specs.Tree.{Tree}
+use Rattle.maxtree_columns.proofs.Tree.{few-nodes, some-nodes}
+use Rattle.record_fields.specs.Fields.{columnFields, nodeColumns}
 
 -- ---- lists of three, one after the other
 
@@ -41,89 +45,87 @@ gather-same (suc m) g g′ e =
 
 -- ---- the fields of a node by place; u: its parent
 
-module _ (n : ℕ) (w : List ℕ) (i : ℕ) where
-  pub node-back : (part u : ℕ) → part ≡ 0 → u ≡ col PARENT n w i → i - u ≡ nth (nodeColumns n w i) part
+module _ (g : Shape) (w : List ℕ) (i : ℕ) where
+  pub node-back : {part u : ℕ} → part ≡ 0 → u ≡ col PARENT (g .pixels) w i → i - u ≡ nth (nodeColumns g w i) part
   unfolding nodeColumns
-  node-back part u e is = rw (e, is)
+  node-back e is = rw (e, is)
 
-  pub node-rise : (part u level below : ℕ) → part ≡ 1 → u ≡ col PARENT n w i → level ≡ col LEVEL n w i → below ≡ col LEVEL n w u
-      → level - below ≡ nth (nodeColumns n w i) part
+  pub node-rise : {part u level below : ℕ} → part ≡ 1 → u ≡ col PARENT (g .pixels) w i → level ≡ col LEVEL (g .pixels) w i
+      → below ≡ col LEVEL (g .pixels) w u → level - below ≡ nth (nodeColumns g w i) part
   unfolding nodeColumns
-  node-rise part u level below e is high low = rw (e, high, low, is)
+  node-rise e is high low = rw (e, high, low, is)
 
-  pub node-area : (part size : ℕ) → part ≡ 2 → size ≡ col AREA n w i → size ≡ nth (nodeColumns n w i) part
+  pub node-area : {part size : ℕ} → part ≡ 2 → size ≡ col AREA (g .pixels) w i → size ≡ nth (nodeColumns g w i) part
   unfolding nodeColumns
-  node-area part size e is = rw (e, is)
-
-  -- the level of the parent is not above that of the node
-  pub node-rises : (u level below : ℕ) → ParentFits n w i → u ≡ col PARENT n w i → level ≡ col LEVEL n w i → below ≡ col LEVEL n w u → below ≤ level
-  node-rises u level below r is high low = rw (high, low, is) (r .rises)
+  node-area e is = rw (e, is)
 
 -- ---- the fields by place
 
-module _ (k wd ht n : ℕ) (w : List ℕ) (count : ℕ) (some-nodes : 0 < count) where
-  node-three : (i : ℕ) → length (nodeColumns n w (suc i)) ≡ 3
+module _ {g : Shape} {f w : List ℕ} {count : ℕ} (t : Tree g f w count) where
+  abbrev n : ℕ
+  n = g .pixels
+
+  abbrev nodes : List ℕ
+  nodes = gather (count - 1) (λ (i : ℕ). nodeColumns g w (suc i))
+
+  node-three : (i : ℕ) → length (nodeColumns g w (suc i)) ≡ 3
   unfolding nodeColumns
   node-three i = refl
 
-  nodes-length : length (gather (count - 1) (λ (i : ℕ). nodeColumns n w (suc i))) ≡ 3 * (count - 1)
-  nodes-length = gather-length (count - 1) (λ (i : ℕ). nodeColumns n w (suc i)) node-three
+  nodes-length : length nodes ≡ 3 * (count - 1)
+  nodes-length = gather-length (count - 1) (λ (i : ℕ). nodeColumns g w (suc i)) node-three
 
-  pub column-length : length (columnFields k wd ht n w count) ≡ 3 * count + 3 + n
+  column-length : length (columnFields g w count) ≡ 3 * count + 3 + n
   unfolding columnFields
   column-length =
-      omega (
-        arith,
-        length-append (gather (count - 1) (λ (i : ℕ). nodeColumns n w (suc i))) (table n (col OWN n w)),
-        nodes-length,
-        length-table n (col OWN n w),
-      )
+      omega (arith, some-nodes t, length-append nodes (table n (col OWN n w)), nodes-length, length-table n (col OWN n w))
+
+  -- the numbers of fields fit
+  pub column-few : 3 * count + 3 + n ≤ 4 * maxPixels + 3
+  column-few = omega (arith, few-nodes t, t .room .small)
 
   -- which numbers are places of fields
-  pub column-inside : (i : ℕ) → i < 3 * count + 3 + n → i < length (columnFields k wd ht n w count)
+  pub column-inside : (i : ℕ) → i < 3 * count + 3 + n → i < length (columnFields g w count)
   column-inside i l = omega (arith, column-length)
 
-  pub column-end : (i : ℕ) → 3 * count + 3 + n ≤ i → length (columnFields k wd ht n w count) ≤ i
+  pub column-end : (i : ℕ) → 3 * count + 3 + n ≤ i → length (columnFields g w count) ≤ i
   column-end i l = omega (arith, column-length)
 
   -- after the first six
-  after-six : (j : ℕ) → nth (columnFields k wd ht n w count) (6 + j)
-      ≡ nth (gather (count - 1) (λ (i : ℕ). nodeColumns n w (suc i)) ++ table n (col OWN n w)) j
+  after-six : (j : ℕ) → nth (columnFields g w count) (6 + j) ≡ nth (nodes ++ table n (col OWN n w)) j
   unfolding columnFields
   after-six j =
-      getD-append-add (wd ∷ ht ∷ k ∷ count ∷ col LEVEL n w 0 ∷ col AREA n w 0 ∷ [])
-      (gather (count - 1) (λ (i : ℕ). nodeColumns n w (suc i)) ++ table n (col OWN n w)) j 0
+      getD-append-add (g .width ∷ g .height ∷ g .connectivity ∷ count ∷ col LEVEL n w 0 ∷ col AREA n w 0 ∷ []) (nodes ++ table n (col OWN n w)) j 0
 
   -- field b of node suc a
-  pub column-node : (a b : ℕ) → suc a < count → b < 3
-      → nth (columnFields k wd ht n w count) (6 + (3 * a + b)) ≡ nth (nodeColumns n w (suc a)) b
+  column-node : (a b : ℕ) → suc a < count → b < 3 → nth (columnFields g w count) (6 + (3 * a + b)) ≡ nth (nodeColumns g w (suc a)) b
   column-node a b l h =
       after-six (3 * a + b)
-      ∙ List·getD-append (gather (count - 1) (λ (i : ℕ). nodeColumns n w (suc i))) (table n (col OWN n w)) 0 (3 * a + b) (omega (arith, nodes-length))
-      ∙ gather-nth (count - 1) (λ (i : ℕ). nodeColumns n w (suc i)) node-three a b (omega arith) h
+      ∙ List·getD-append nodes (table n (col OWN n w)) 0 (3 * a + b) (omega (arith, nodes-length))
+      ∙ gather-nth (count - 1) (λ (i : ℕ). nodeColumns g w (suc i)) node-three a b (omega arith) h
 
   -- the own node of pixel p
-  pub column-own : (p : ℕ) → p < n → nth (columnFields k wd ht n w count) (3 * count + 3 + p) ≡ col OWN n w p
+  column-own : (p : ℕ) → p < n → nth (columnFields g w count) (3 * count + 3 + p) ≡ col OWN n w p
   column-own p l =
-      let e : 3 * count + 3 + p ≡ 6 + (3 * (count - 1) + p) = omega arith in
-      ap (λ (i : ℕ). nth (columnFields k wd ht n w count) i) e
+      let e : 3 * count + 3 + p ≡ 6 + (3 * (count - 1) + p) = omega (arith, some-nodes t) in
+      ap (λ (i : ℕ). nth (columnFields g w count) i) e
       ∙ after-six (3 * (count - 1) + p)
-      ∙ ap (λ (x : ℕ). nth (gather (count - 1) (λ (i : ℕ). nodeColumns n w (suc i)) ++ table n (col OWN n w)) (x + p)) (sym nodes-length)
-      ∙ getD-append-add (gather (count - 1) (λ (i : ℕ). nodeColumns n w (suc i))) (table n (col OWN n w)) p 0
+      ∙ ap (λ (x : ℕ). nth (nodes ++ table n (col OWN n w)) (x + p)) (sym nodes-length)
+      ∙ getD-append-add nodes (table n (col OWN n w)) p 0
       ∙ getD-table n (col OWN n w) p 0 l
 
   -- the same by the place of the field
   pub column-node-at : (i : ℕ) → 6 ≤ i → i < 3 * count + 3
-      → nth (nodeColumns n w ((i - 6) / 3 + 1)) ((i - 6) % 3) ≡ nth (columnFields k wd ht n w count) i
+      → nth (nodeColumns g w ((i - 6) / 3 + 1)) ((i - 6) % 3) ≡ nth (columnFields g w count) i
   column-node-at i low high =
       let d : (i - 6) / 3 * 3 + (i - 6) % 3 ≡ i - 6 = div-add-mod' (i - 6) 3 in
       let m : (i - 6) % 3 < 3 = omega arith in
       let e : 6 + (3 * ((i - 6) / 3) + (i - 6) % 3) ≡ i = omega arith in
       rw add-one
-      (sym (column-node ((i - 6) / 3) ((i - 6) % 3) (omega arith) m) ∙ ap (λ (x : ℕ). nth (columnFields k wd ht n w count) x) e)
+      (sym (column-node ((i - 6) / 3) ((i - 6) % 3) (omega arith) m) ∙ ap (λ (x : ℕ). nth (columnFields g w count) x) e)
 
   pub column-own-at : (i : ℕ) → 3 * count + 3 ≤ i → i < 3 * count + 3 + n
-      → col OWN n w (i - (3 * count + 3)) ≡ nth (columnFields k wd ht n w count) i
+      → col OWN n w (i - (3 * count + 3)) ≡ nth (columnFields g w count) i
   column-own-at i low high =
       let e : 3 * count + 3 + (i - (3 * count + 3)) ≡ i = omega arith in
-      sym (column-own (i - (3 * count + 3)) (omega arith)) ∙ ap (λ (x : ℕ). nth (columnFields k wd ht n w count) x) e
+      sym (column-own (i - (3 * count + 3)) (omega arith)) ∙ ap (λ (x : ℕ). nth (columnFields g w count) x) e

@@ -13,9 +13,10 @@ use Rattle.record_parse.specs.declared.Step.the-variants.{Next, Refused}
 use Rattle.meaning.specs.Plate.{connectivityFits, maxPixels, maxExtent}
 use Rattle.meaning.specs.Sets.{pick}
 use Rattle.work_columns.specs.Columns.{Room}
+use Rattle.work_columns.specs.Layout.{greysIn}
 use Rattle.record_varint.specs.Field.{fieldAt, fieldBound, refused}
 use Rattle.record_parse.specs.Parse.{Parsed, early, fromConnectivity, fromCount, fromHeight, fromRoot, parse}
-use Rattle.record_parse.specs.Steps.{ParsedWork, TreeRead, greysIn, parsedBy, treeParsed}
+use Rattle.record_parse.specs.Steps.{ParsedWork, TreeRead, parsedBy, treeParsed}
 use Rattle.record_parse.proofs.Fields.{Took}
 
 -- ---- after each field; work: the length of the work space

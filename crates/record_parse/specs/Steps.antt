@@ -9,14 +9,10 @@ use Rattle.record_parse.specs.declared.Step.the-variants.{Next, Refused}
 use Rattle.meaning.specs.Sets.{table}
 use Rattle.meaning.specs.Plate.{greatestGrey}
 use Rattle.work_columns.specs.Columns.{Frame, Room, col}
-use Rattle.work_columns.specs.Layout.{GREY, LEVEL}
+use Rattle.work_columns.specs.Layout.{LEVEL, greysIn}
 use Rattle.record_parse.specs.Parse.{Parsed, Values, bad, early, fromRoot, good, greysFrom, late, levelsFrom, plate}
 
 -- ---- the record
-
--- the greys of the pixels, as they stand in the work space
-abbrev pub greysIn : ℕ → List ℕ → List ℕ
-greysIn n w = table n (col GREY n w)
 
 -- an answer in the specification's terms: the number of the refusal, with the pixels where work had begun; else the plate of that width, height and
 -- connectivity whose greys stand in the work space w

@@ -1,9 +1,9 @@
 -- Reading a record up to 24: from what parsing finds to the tree in the work space, and what the work space is when an operation gives up.
 use mathlib.Core.Path.{_≡_, refl, sym, ap, _∙_}
-use mathlib.Core.Bool.{true, false}
+use mathlib.Core.Bool.{Bool, true, false}
 use mathlib.Core.Logic.{_⊎_, ⊎-elim}
 use mathlib.Core.List.{List, [], _∷_}
-use Prim.Native.Nat.{ℕ, _*_, _≤_, _<_}
+use Prim.Native.Nat.{ℕ, _*_, _≤_}
 use native.Mathlib.Omega.{arith}
 use lib.ListN.{length}
 use types.Run.{OneOf}
@@ -12,21 +12,19 @@ use Rattle.record_parse.specs.declared.Parse.{Parse}
 use Rattle.record_parse.proofs.Parse.{the-type}
 use Rattle.record_tree.specs.declared.Found.{Found}
 use Rattle.record_tree.specs.declared.Found.the-variants.{Early, Late, Tree}
-use Rattle.meaning.specs.Plate.{Plate, grey}
+use Rattle.meaning.specs.Plate.{Plate, maxPixels}
 use Rattle.meaning.specs.Record.{recordOf}
-use Rattle.work_columns.specs.Columns.{Frame, Room, col}
-use Rattle.work_columns.specs.Layout.{Buildable, Built, GREY}
+use Rattle.work_columns.specs.Columns.{Frame, Room}
+use Rattle.work_columns.specs.Layout.{Buildable, greysIn, shapeOf}
+use Rattle.work_columns.specs.declared.Shape.{Shape}
 use Rattle.work_columns.proofs.Columns.{frame-room, frame-trans}
-use Rattle.theory_lists.proofs.Lists.{getD-table}
 use Rattle.theory_connectivity.proofs.Sizes.{grid-sizes}
-use Rattle.plate_greys.specs.Standing.{Standing}
-use Rattle.plate_greys.specs.Tree.{TreeFacts}
-use Rattle.plate_greys.proofs.Tree.{grow}
-use Rattle.plate_greys.proofs.Sides.{column-plate}
+use Rattle.maxtree_columns.specs.Tree.{Built, TreeStands}
+use Rattle.maxtree_columns.proofs.Greys.{greys-column, greys-length}
+use Rattle.maxtree_columns.proofs.Tree.{tree-here, tree-plate}
 use Rattle.record_parse.specs.Parse.{Parsed, compared, parse, plate, readOf, sameBytes}
 use Rattle.record_parse.proofs.Sound.{parse-plate}
-use Rattle.record_parse.specs.Steps.{ParsedWork, greysIn, parsedBy}
-use Rattle.record_fields.proofs.Standing.{standing-here, standing-plate}
+use Rattle.record_parse.specs.Steps.{ParsedWork, parsedBy}
 use Rattle.record_tree.specs.Found.{Clearable, FoundIs, unspeltOf}
 
 -- ---- a record that is no plate's
@@ -64,56 +62,50 @@ spelt s {work} {work′} {p} {wd} {ht} {k} e x is =
       frame = y .1;
     }
 
+-- its shape g
 module _ {s work w₁ : List ℕ} {wd ht k : ℕ} (sp : PlateSpelt s work w₁ wd ht k) where
   -- the product of the sizes fits
-  pub spelt-few : wd * ht ≤ 16777216
+  pub spelt-few : wd * ht ≤ maxPixels
   spelt-few = grid-sizes wd ht (sp .accepted .sizes) .few-pixels
 
-  abbrev f : List ℕ
-  f = greysIn (wd * ht) w₁
+  module _ {g : Shape} (is : g ≡ shapeOf (wd * ht) wd ht k) where
+    -- the tree can be built
+    pub spelt-buildable : Buildable g w₁
+    spelt-buildable = rw is (record {
+      room = frame-room (sp .room) (sp .frame);
+      kind = sp .accepted .kind;
+      sizes = sp .accepted .sizes;
+      product = refl;
+      greys = λ p l.
+          omega (
+            arith,
+            ap (λ (h : ℕ → ℕ). h p) (greys-column (wd * ht) w₁),
+            sp .accepted .greys p (omega (arith, greys-length (wd * ht) w₁)),
+          );
+    })
 
-  greys : (p : ℕ) → p < wd * ht → col GREY (wd * ht) w₁ p ≡ grey f p
-  greys p l = sym (getD-table (wd * ht) (col GREY (wd * ht) w₁) p 0 l)
+    module _ {w₂ : List ℕ} {count : ℕ} (did : Built g w₁ w₂ count) where
+      built : Built (shapeOf (wd * ht) wd ht k) w₁ w₂ count
+      built = rw is at did
 
-  -- the tree can be built
-  pub spelt-buildable : Buildable k wd ht (wd * ht) w₁
-  spelt-buildable = record {
-    room = frame-room (sp .room) (sp .frame);
-    kind = sp .accepted .kind;
-    sizes = sp .accepted .sizes;
-    pixels = refl;
-    greys = λ p l. omega (arith, greys p l, sp .accepted .greys p (omega (arith, sp .accepted .long)));
-  }
+      whole : Frame (wd * ht) work w₂
+      whole = frame-trans (sp .frame) (built .frame)
 
-  module _ {w₂ : List ℕ} {count : ℕ} (b : Built k wd (wd * ht) w₁ w₂ count) where
-    -- and then stands
-    spelt-standing : Standing k wd ht f w₂ count
-    spelt-standing =
-        let long : length f ≡ wd * ht = sp .accepted .long in
-        let room : Room w₂ (wd * ht) = frame-room (spelt-buildable .room) (b .frame) in
-        let same : col GREY (wd * ht) w₂ ≡ grey f = b .same ∙ column-plate GREY (wd * ht) w₁ f long greys in
-        let grown : TreeFacts k wd (wd * ht) w₂ count = grow spelt-buildable b in
-        record { plate = sp .accepted; room = rw long room; same = rw long same; facts = rw long grown }
+      read-is : readOf s (length work) ≡ compared s (plate k wd ht (greysIn (wd * ht) w₂))
+      unfolding readOf
+      read-is = ap (compared s) (sp .parsed) ∙ ap (λ (f : List ℕ). compared s (plate k wd ht f)) (sym (tree-plate (built .tree)))
 
-    pub spelt-here : Standing k wd ht (greysIn (wd * ht) w₂) w₂ count
-    spelt-here = standing-here spelt-standing (wd * ht) (sym (sp .accepted .long))
+      module _ {same : Bool} (e : same ≡ sameBytes s (recordOf (g .connectivity) (g .width) (g .height) (greysIn (g .pixels) w₂))) where
+        same-is : sameBytes s (recordOf k wd ht (greysIn (wd * ht) w₂)) ≡ same
+        same-is = sym (rw is at e)
 
-    whole : Frame (wd * ht) work w₂
-    whole = frame-trans (sp .frame) (b .frame)
+        -- 24
+        pub found-different : same ≡ false → FoundIs (readOf s (length work)) work w₂ (Late 24 (wd * ht))
+        found-different d = record { answer = sym (read-is ∙ rw (same-is, d)); space = (sp .room, whole) }
 
-    read-is : readOf s (length work) ≡ compared s (plate k wd ht (greysIn (wd * ht) w₂))
-    unfolding readOf
-    read-is =
-        let plain : f ≡ greysIn (wd * ht) w₂ = sym (standing-plate spelt-standing (wd * ht) (sym (sp .accepted .long))) in
-        ap (compared s) (sp .parsed) ∙ ap (λ (g : List ℕ). compared s (plate k wd ht g)) plain
-
-    -- 24
-    pub found-different : sameBytes s (recordOf k wd ht (greysIn (wd * ht) w₂)) ≡ false → FoundIs (readOf s (length work)) work w₂ (Late 24 (wd * ht))
-    found-different differs = record { answer = sym (read-is ∙ rw differs); space = (sp .room, whole) }
-
-    -- a plate's record
-    pub found-tree : sameBytes s (recordOf k wd ht (greysIn (wd * ht) w₂)) ≡ true → FoundIs (readOf s (length work)) work w₂ (Tree wd ht k count)
-    found-tree same = record { answer = sym (read-is ∙ rw same); space = (whole, spelt-here) }
+        -- a plate's record
+        pub found-tree : same ≡ true → FoundIs (readOf s (length work)) work w₂ (Tree wd ht k count)
+        found-tree d = record { answer = sym (read-is ∙ rw (same-is, d)); space = (whole, tree-here (built .tree)) }
 
 -- ---- giving up, and going on
 
@@ -126,10 +118,10 @@ found-clearable (Tree wd ht k count) x = tt
 pub record TreeFound (P : Parsed) (wd ht k : ℕ) (w w′ : List ℕ) (count : ℕ) : Type 0 where
   pub is : P ≡ plate k wd ht (greysIn (wd * ht) w′)
   pub frame : Frame (wd * ht) w w′
-  pub standing : Standing k wd ht (greysIn (wd * ht) w′) w′ count
+  pub tree : TreeStands (shapeOf (wd * ht) wd ht k) w′ count
 
 pub tree-found : {P : Parsed} {w w′ : List ℕ} {t : Found} {wd ht k count : ℕ} → FoundIs P w w′ t → t ≡ Tree wd ht k count
     → TreeFound P wd ht k w w′ count
 tree-found {P} {w} {w′} {wd = wd} {ht = ht} {k = k} {count = count} x is =
     let y : FoundIs P w w′ (Tree wd ht k count) = rw is at x in
-    record { is = sym (y .answer); frame = y .space .0; standing = y .space .1 }
+    record { is = sym (y .answer); frame = y .space .0; tree = y .space .1 }

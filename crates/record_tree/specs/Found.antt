@@ -6,10 +6,9 @@ use Prim.Native.Nat.{ℕ, _*_, _≤_}
 use lib.ListN.{length}
 use Rattle.meaning.specs.Answers.{workAfter}
 use Rattle.work_columns.specs.Columns.{Frame, Room}
-use Rattle.work_columns.specs.Layout.{Greys}
-use Rattle.plate_greys.specs.Standing.{Standing}
+use Rattle.work_columns.specs.Layout.{Greys, greysIn, shapeOf}
+use Rattle.maxtree_columns.specs.Tree.{TreeStands}
 use Rattle.record_parse.specs.Parse.{Parsed, early, late, plate}
-use Rattle.record_parse.specs.Steps.{greysIn}
 use Rattle.record_parse.specs.declared.Parse.{Parse}
 use Rattle.record_tree.specs.declared.Found.{Found}
 use Rattle.record_tree.specs.declared.Found.the-variants.{Early, Late, Tree}
@@ -26,7 +25,7 @@ foundBy (Tree wd ht k count) w = plate k wd ht (greysIn (wd * ht) w)
 abbrev pub FoundWork : Found → List ℕ → List ℕ → Type 0
 FoundWork (Early number) w w′ = w′ ≡ w
 FoundWork (Late number pixels) w w′ = Room w pixels × Frame pixels w w′
-FoundWork (Tree wd ht k count) w w′ = Frame (wd * ht) w w′ × Standing k wd ht (greysIn (wd * ht) w′) w′ count
+FoundWork (Tree wd ht k count) w w′ = Frame (wd * ht) w w′ × TreeStands (shapeOf (wd * ht) wd ht k) w′ count
 
 -- so it is where reading finds P
 pub record FoundIs (P : Parsed) (w w′ : List ℕ) (r : Found) : Type 0 where

@@ -2,10 +2,11 @@
 ghost use mathlib.Core.Path.{_≡_};
 ghost use lib.ListN.{length};
 ghost use Rattle.meaning.specs.Answers.{over};
-ghost use Rattle.record_parse.specs.Steps.{greysIn};
+ghost use Rattle.work_columns.specs.Layout.{greysIn};
 ghost use Rattle.record_parse.specs.Parse.{readOf};
 ghost use Rattle.record_tree.specs.Found.{FoundIs, foundNumber, Clearable, clearedBy, unspeltOf, GreysStand};
 use record_parse::Parse;
+use work_columns::GREY;
 
 // What reading a record finds, up to 24. `foundBy` says it in the specification's terms.
 pub enum Found {
@@ -37,14 +38,9 @@ pub fn read_tree(bytes: &[u8], work: &mut [u32]) -> Found
         return unspelt(p);
     };
     let n = (width * height) as usize;
-    let count = maxtree::build_tree(
-        work,
-        n,
-        width as usize,
-        height as usize,
-        connectivity as usize,
-    );
-    if !record_fields::same(work, n, width, height, connectivity, count, bytes) {
+    let g = work_columns::shape_of(n, width, height, connectivity);
+    let count = maxtree::build_tree(work, g);
+    if !record_fields::same(work, g, count, bytes) {
         return Found::Late(24, n);
     }
     Found::Tree(width, height, connectivity, count)
@@ -72,7 +68,7 @@ pub fn write_greys(w: &[u32], n: usize, out: &mut [u8])
 {
     let mut p: usize = 0;
     while p < n {
-        out[p] = work_columns::get(w, n, 0, p) as u8;
+        out[p] = work_columns::get(w, n, GREY, p) as u8;
         p += 1;
     }
 }

@@ -5,29 +5,31 @@ use borrow.Author.Needs.{needs}
 use denote.Ref.{now}
 use Rattle.record_fields.proofs.same.Statement.{statement}
 use Rattle.record_fields.proofs.same.Tie as tie
-use Rattle.record_fields.proofs.Standing.{standing-spelt}
-use Rattle.record_fields.proofs.Loops.{Comparing, comparing-first, comparing-more, comparing-differs, comparing-done}
+use Rattle.record_varint.proofs.Loops.{Matched, matched-first}
+use Rattle.record_fields.specs.Fields.{columnFields}
+use Rattle.record_fields.proofs.Fields.{column-few}
+use Rattle.record_fields.proofs.Loops.{comparing-differs, comparing-done, comparing-more}
 
 abbrev Inv-loop : tie.InvT-loop
-Inv-loop w n width height connectivity count s total at₀ i₀ at i = Comparing connectivity width height n w count s i at
+Inv-loop w g count s total at₀ i₀ at i = Matched (columnFields g w count) s i at
 
 abbrev μ-loop : tie.MeasureT-loop
-μ-loop w n width height connectivity count s total at₀ i₀ at i = 3 * count + 3 + n - i
+μ-loop w g count s total at₀ i₀ at i = 3 * count + 3 + g .pixels - i
 
 mul-total : tie.Need-mul-total Inv-loop μ-loop
-mul-total c = let s = standing-spelt (c .before .before .args .n) (c .before .before .pre) in omega arith
+mul-total c = omega (arith, column-few (c .before .before .pre))
 
 add-total : tie.Need-add-total Inv-loop μ-loop
-add-total c = let s = standing-spelt (c .before .before .args .n) (c .before .before .pre) in omega arith
+add-total c = omega (arith, column-few (c .before .before .pre))
 
 add-total-2 : tie.Need-add-total-2 Inv-loop μ-loop
-add-total-2 c = let s = standing-spelt (c .before .before .args .n) (c .before .before .pre) in omega arith
+add-total-2 c = omega (arith, column-few (c .before .before .before .pre))
 
 loop-holds : tie.Need-loop-holds Inv-loop μ-loop
-loop-holds c = let s = c .before .before in comparing-first (s .args .n) (now (s .args .s)) (s .pre)
+loop-holds c = let s = c .before .before .before .args in matched-first (columnFields (s .g) (now (s .w)) (s .count)) (now (s .s))
 
 field-at-requires : tie.Need-field-at-requires Inv-loop μ-loop
-field-at-requires c κs = (c .before .loop .inv .spelt, omega arith)
+field-at-requires c κs = (c .before .before .before .before .before .pre, omega arith)
 
 same-field-requires : tie.Need-same-field-requires Inv-loop μ-loop
 same-field-requires c κs = tt
@@ -41,12 +43,12 @@ enum-told c = search needs
 returns : tie.Need-returns Inv-loop μ-loop
 returns c =
     let f = c .before .before in
-    let t = f .before .before in
-    comparing-differs (t .before .loop .inv) (omega arith) (f .before .field-at .ensures) (f .same-field .ensures) (c .enum-told .given .1)
-    (t .before .before .before .before .pre)
+    let l = f .before .before .before in
+    comparing-differs (l .before .before .before .before .pre) (l .loop .inv) (omega arith) (f .before .field-at .ensures)
+    (f .same-field .ensures) (c .enum-told .given .1)
 
 add-i : tie.Need-add-i Inv-loop μ-loop
-add-i c = omega arith
+add-i c = omega (arith, column-few (c .before .before .before .before .before .before .before .before .before .before .pre))
 
 loop-less : tie.Need-loop-less Inv-loop μ-loop
 loop-less c = omega arith
@@ -54,11 +56,12 @@ loop-less c = omega arith
 loop-again : tie.Need-loop-again Inv-loop μ-loop
 loop-again c =
     let f = c .before .before .before in
-    let t = f .before .before in
-    comparing-more (t .before .loop .inv) (omega arith) (f .before .field-at .ensures) (f .same-field .ensures) (c .before .c .given .1)
+    let l = f .before .before .before in
+    comparing-more (l .before .before .before .before .pre) (l .loop .inv) (omega arith) (f .before .field-at .ensures)
+    (f .same-field .ensures) (c .before .c .given .1)
 
 returns-2 : tie.Need-returns-2 Inv-loop μ-loop
-returns-2 c = comparing-done (c .before .loop .inv) (omega arith) (c .before .before .before .before .pre)
+returns-2 c = comparing-done (c .before .before .before .before .before .pre) (c .before .loop .inv) (omega arith)
 
 pub same-spec : {M : Type 1} → statement M
 same-spec =

@@ -2,13 +2,13 @@
 use borrow.Author.Needs.{needs}
 use Rattle.record_tree.proofs.read_tree.Statement.{statement}
 use Rattle.record_tree.proofs.read_tree.Tie as tie
-use mathlib.Core.Path.{sym, _∙_}
 use Prim.Native.Nat.{ℕ}
 use native.Mathlib.Omega.{arith}
 use borrow.Author.Tests.{not-true, not-false}
 use denote.Ref.{now}
+use Rattle.maxtree_columns.proofs.Tree.{tree-here}
 use Rattle.record_parse.specs.Parse.{parse, readOf}
-use Rattle.record_tree.proofs.Finding.{PlateSpelt, spelt, spelt-buildable, spelt-few, spelt-here, found-different, found-tree, unspelt-found}
+use Rattle.record_tree.proofs.Finding.{PlateSpelt, spelt, spelt-buildable, spelt-few, found-different, found-tree, unspelt-found}
 
 -- the plate that the bytes spell: width, height, connectivity
 abbrev wide : tie.After-known-told → ℕ
@@ -59,20 +59,14 @@ mul-n c = omega (arith, spelt-few (told c))
 cast-n : tie.Need-cast-n
 cast-n c = omega (arith, spelt-few (told c))
 
-cast-build-tree : tie.Need-cast-build-tree
-cast-build-tree c = search needs
-
-cast-build-tree-2 : tie.Need-cast-build-tree-2
-cast-build-tree-2 c = search needs
-
-cast-build-tree-3 : tie.Need-cast-build-tree-3
-cast-build-tree-3 c = search needs
+shape-of-requires : tie.Need-shape-of-requires
+shape-of-requires c κs = tt
 
 build-tree-requires : tie.Need-build-tree-requires
-build-tree-requires c κs = spelt-buildable (told (c .before))
+build-tree-requires c κs = spelt-buildable (told (c .before .before)) (c .before .shape-of .ensures)
 
 same-requires : tie.Need-same-requires
-same-requires c κs = spelt-here (told (c .before .before .before .before .before)) (c .before .before .before .build-tree .ensures)
+same-requires c κs = tree-here (c .before .before .before .build-tree .ensures .tree)
 
 same-length-2 : tie.Need-same-length-2
 same-length-2 c = search needs
@@ -80,7 +74,8 @@ same-length-2 c = search needs
 returns-2 : tie.Need-returns-2
 returns-2 c =
     let b = c .before .before .before .before .before in
-    found-different (told (b .before .before)) (b .build-tree .ensures) (sym (c .before .same .ensures) ∙ not-true _ (c .if1 .taken))
+    let g = b .before .before in
+    found-different (told (g .before)) (g .shape-of .ensures) (b .build-tree .ensures) (c .before .same .ensures) (not-true _ (c .if1 .taken))
 
 same-length-3 : tie.Need-same-length-3
 same-length-3 c = search needs
@@ -88,7 +83,8 @@ same-length-3 c = search needs
 returns-3 : tie.Need-returns-3
 returns-3 c =
     let b = c .before .before .before .before .before in
-    found-tree (told (b .before .before)) (b .build-tree .ensures) (sym (c .before .same .ensures) ∙ not-false _ (c .if1 .left))
+    let g = b .before .before in
+    found-tree (told (g .before)) (g .shape-of .ensures) (b .build-tree .ensures) (c .before .same .ensures) (not-false _ (c .if1 .left))
 
 pub read-tree-spec : {M : Type 1} → statement M
 read-tree-spec =
@@ -101,9 +97,7 @@ read-tree-spec =
     returns
     mul-n
     cast-n
-    cast-build-tree
-    cast-build-tree-2
-    cast-build-tree-3
+    shape-of-requires
     build-tree-requires
     same-requires
     same-length-2
