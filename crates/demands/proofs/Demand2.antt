@@ -13,7 +13,7 @@ use Rattle.theorems.proofs.Theorems.{closed-is-least, opened-is-greatest}
 use Rattle.plate_refusals.proofs.Refusals.{Cleanable, clean-none}
 use Rattle.plate_filter.specs.Operations.{Cleaned}
 use Rattle.demands.specs.Demand2.{CleaningClaim, HoldsCleaned, HoldsClosed, HoldsOpened, Negatives}
-use Rattle.demands.proofs.Demand3.{over-nth, over-take}
+use Rattle.demands.proofs.Claims.{over-nth, over-take}
 
 -- ---- one plate, cleaned on a side
 

@@ -3,13 +3,9 @@
 -- f: the plate.
 use mathlib.Core.Path.{_≡_}
 use mathlib.Core.List.{List}
-use Prim.Native.Nat.{ℕ, suc, _+_, _-_, _*_, _≤_, _<_}
-use lib.Dec.{eqb}
+use Prim.Native.Nat.{ℕ, _-_, _*_, _≤_}
 use lib.ListN.{length, take}
-use Rattle.meaning.specs.Sets.{area, sum, nth}
-use Rattle.meaning.specs.Plate.{NowhereLighter, touch, grey}
-use Rattle.meaning.specs.Maxima.{LargeMaxima}
-use Rattle.meaning.specs.Nodes.{areaOf, nodesOf}
+use Rattle.meaning.specs.Nodes.{nodesOf}
 use Rattle.meaning.specs.Cut.{total, darkest}
 use Rattle.meaning.specs.Record.{recordOf}
 use Rattle.record_parse.specs.Parse.{readOf}
@@ -17,6 +13,7 @@ use Rattle.record.specs.Writing.{writeAnswer, writeOut}
 use Rattle.record.specs.Reading.{cutRefusal, cutOut, headOf, sizeRefusal, sizeHeadOf, countsOut, lossesOut}
 use Rattle.record.specs.declared.Head.{Head}
 use Rattle.record.specs.declared.SizeHead.{SizeHead}
+use Rattle.demands.specs.Claims.{IsCut, IsSizeList}
 
 -- the bytes that writing returns, without the excess: as many as it answers, from the front of the output
 unfoldable pub written : (k w h : ℕ) (f out work : List ℕ) → List ℕ
@@ -46,26 +43,17 @@ unfoldable pub sizeLosses : (bytes counts losses work : List ℕ) → List ℕ
 unfolding readOf
 sizeLosses bytes counts losses work = lossesOut (readOf bytes (length work)) (length counts) losses
 
--- the cut at one limit: it is not refused, and it is the lightest plate that is nowhere lighter than f and whose regional maxima have at least the
--- limit's pixels
+-- the cut at one limit: it is not refused, and it is the cut
 pub record CutClaim (k w h : ℕ) (f bytes : List ℕ) (limit : ℕ) (out work : List ℕ) : Type 0 where
   pub accepted : cutHead bytes limit out work ≡ record { refusal = 0; width = w; height = h; connectivity = k }
-  pub nowhere-lighter : NowhereLighter (cutPlate w h bytes limit out work) f
-  pub large-maxima : LargeMaxima k w h limit (cutPlate w h bytes limit out work)
-  pub lightest : (g : List ℕ) → NowhereLighter g f → LargeMaxima k w h limit g → NowhereLighter g (cutPlate w h bytes limit out work)
+  pub is-cut : IsCut k w h limit f (cutPlate w h bytes limit out work)
 
--- the size list: it is not refused; at each area it has the number of nodes, and the grey lost, which with the total of the cut at one more makes the
--- total of the cut at that area; all losses and the darkest grey over every pixel make the plate's total. `plain` is an output for the cuts
+-- the size list: it is not refused, and it is the size list, by the totals of the cuts of these bytes. `plain` is an output for the cuts
 pub record SizeClaim (k w h : ℕ) (f bytes counts losses work plain : List ℕ) : Type 0 where
   pub accepted : sizeHead bytes counts losses work
       ≡ record { refusal = 0; width = w; height = h; connectivity = k; nodes = length (nodesOf k w f); darkest = darkest f }
-  pub node-counts : (a : ℕ) → 1 ≤ a → a < w * h
-      → nth (sizeCounts bytes counts losses work) (a - 1)
-      ≡ area (length (nodesOf k w f)) (λ (i : ℕ). eqb (areaOf (length f) (touch k w) (grey f) (nodesOf k w f) i) a)
-  pub grey-lost : (a : ℕ) → 1 ≤ a → a < w * h
-      → nth (sizeLosses bytes counts losses work) (a - 1) + total (cutPlate w h bytes (suc a) plain work)
-      ≡ total (cutPlate w h bytes a plain work)
-  pub whole : sum (w * h - 1) (nth (sizeLosses bytes counts losses work)) + sizeHead bytes counts losses work .darkest * (w * h) ≡ total f
+  pub is-list : IsSizeList k w h f (sizeCounts bytes counts losses work) (sizeLosses bytes counts losses work)
+      (sizeHead bytes counts losses work .darkest) (λ (a : ℕ). total (cutPlate w h bytes a plain work))
 
 -- all of it, for every limit from 1 to the pixels and whatever buffers of enough space
 pub record Demand3 (k w h : ℕ) (f : List ℕ) : Type 0 where

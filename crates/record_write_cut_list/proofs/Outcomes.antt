@@ -9,7 +9,7 @@ use lib.ListN.{length, drop, replicate, take, length-append, length-drop, length
 use lib.Seq.{drop-at}
 use borrow.Author.Tests.{ne-eqb, le-ltb}
 use Rattle.meaning.specs.Answers.{outRefusal, over, refuse, workAfter}
-use Rattle.meaning.specs.Cut.{counts, cut, darkest, losses}
+use Rattle.meaning.specs.Cut.{counts, cut, darkest, losses, total}
 use Rattle.meaning.specs.Nodes.{nodesOf}
 use Rattle.meaning.specs.Plate.{Plate}
 use Rattle.meaning.specs.Record.{recordOf}
@@ -22,10 +22,10 @@ use Rattle.record.specs.declared.SizeHead.{SizeHead}
 use Rattle.record.specs.declared.Written.{Written}
 use Rattle.record.specs.Reading.{CutRecord, ListedSizes}
 use Rattle.record.specs.Writing.{WrittenRecord, writeAnswer, writeOut, writeRefusal, writeWork}
-use Rattle.demands.proofs.Demand3.{cut-zero, over-take, size-zero}
+use Rattle.demands.proofs.Claims.{is-cut, is-list, over-take}
+use Rattle.demands.proofs.Demand3.{cut-length, cut-zero, size-zero}
 use Rattle.record_write_cut_list.specs.declared.CutListed.{CutListed}
 use Rattle.record_write_cut_list.specs.WriteCutList.{WrittenCutListed, earlyRefusal, workBegins, writeCutListAnswer, writeCutListRefusal}
-use Rattle.record_write_cut_list.proofs.Claims.{at-limit}
 use Rattle.record_write_cut_list.proofs.Conditions.{Fits, early-first, early-fits, early-later}
 
 -- the answer that refuses
@@ -91,7 +91,8 @@ module _ (k w h limit : ℕ) (f bytes out counted lost work : List ℕ) {e : ℕ
         loss-table = rw (whole, z);
         space = rw (begins-is, z);
         accepted = λ none. absurd (x (sym whole ∙ none));
-        claim = λ none. absurd (x (sym whole ∙ none));
+        is-cut = λ none. absurd (x (sym whole ∙ none));
+        is-list = λ none. absurd (x (sym whole ∙ none));
       }
 
   module _ (z : e ≡ 0) where
@@ -131,7 +132,8 @@ module _ (k w h limit : ℕ) (f bytes out counted lost work : List ℕ) {e : ℕ
             loss-table = rw by;
             space = rw (begins-is, z) (d .space ∙ rw is-five);
             accepted = λ none. absurd (x (number-is ∙ sym whole ∙ none));
-            claim = λ none. absurd (x (number-is ∙ sym whole ∙ none));
+            is-cut = λ none. absurd (x (number-is ∙ sym whole ∙ none));
+            is-list = λ none. absurd (x (number-is ∙ sym whole ∙ none));
           }
 
       module _ (none : r .refusal ≡ 0) where
@@ -174,7 +176,7 @@ module _ (k w h limit : ℕ) (f bytes out counted lost work : List ℕ) {e : ℕ
             let cz = cut-zero pl limit (fits .sizes .limit-low) (fits .sizes .limit-high) out (fits .sizes .room) in
             let w₂-is : w₂ ≡ workAfter true (w * h) work = t .space ∙ ap (workAfter true (w * h)) space-is ∙ zeroed-again (w * h) work in
             let u : ListedSizes (plate k w h f) counted counted₁ lost lost₁ w₂ w₃ r₃ = rw (read-is w₂-is) at s in
-            let sz = size-zero pl counted lost work out (fits .counts-fit) (fits .losses-fit) (fits .sizes .space) (fits .sizes .room) in
+            let sz = size-zero pl counted lost (fits .counts-fit) (fits .losses-fit) in
             let w₃-is : w₃ ≡ workAfter true (w * h) work = u .space ∙ ap (workAfter true (w * h)) w₂-is ∙ zeroed-again (w * h) work in
             let cut-is : out₁ ≡ over (cut k w h limit f) out = t .output ∙ rw cz in
             let counts-are : counted₁ ≡ over (counts k w h f) counted = u .count-table ∙ rw sz in
@@ -189,10 +191,8 @@ module _ (k w h limit : ℕ) (f bytes out counted lost work : List ℕ) {e : ℕ
               loss-table = rw by losses-are;
               space = rw (begins-is, z) w₃-is;
               accepted = λ q. pl;
-              claim = λ q.
-                  rw (cut-is, counts-are, losses-are, dark-is)
-                  (at-limit pl limit (fits .sizes .limit-low) (fits .sizes .limit-high) out counted lost work
-                  (fits .sizes .room) (fits .counts-fit) (fits .losses-fit) (fits .sizes .space));
+              is-cut = λ q. rw (cut-is, over-take (cut k w h limit f) out (w * h) (cut-length pl limit)) (is-cut pl limit (fits .sizes .limit-high));
+              is-list = λ q. rw (counts-are, losses-are, dark-is) (is-list pl counted lost (λ (a : ℕ). total (cut k w h a f)) (λ a l m. refl));
             }
 
 -- ---- given its space nothing is refused

@@ -3,16 +3,16 @@
 use mathlib.Core.Path.{_≡_}
 use mathlib.Core.Bool.{Bool, _||_}
 use mathlib.Core.List.{List}
-use Prim.Native.Nat.{ℕ, suc, _+_, _-_, _*_, _≤_, _<_}
+use Prim.Native.Nat.{ℕ, _-_, _*_}
 use lib.Dec.{eqb, ltb}
 use lib.ListN.{length, take}
-use Rattle.meaning.specs.Sets.{area, nth, pick, sum}
-use Rattle.meaning.specs.Plate.{NowhereLighter, Plate, connectivityFits, grey, gridFits, touch}
-use Rattle.meaning.specs.Maxima.{LargeMaxima}
-use Rattle.meaning.specs.Nodes.{areaOf, nodesOf}
+use Rattle.meaning.specs.Sets.{pick}
+use Rattle.meaning.specs.Plate.{Plate, connectivityFits, gridFits}
+use Rattle.meaning.specs.Nodes.{nodesOf}
 use Rattle.meaning.specs.Cut.{counts, cut, darkest, losses, total}
 use Rattle.meaning.specs.Record.{recordOf}
 use Rattle.meaning.specs.Answers.{limitRefusal, outAfter, outRefusal, plateRefusal, refuse, workAfter, workRefusal}
+use Rattle.demands.specs.Claims.{IsCut, IsSizeList}
 use Rattle.record_write_cut_list.specs.declared.CutListed.{CutListed}
 
 -- the conditions ahead of any work, by lengths: 1, 2, 3, 4, then 5 when the output has fewer places than the pixels or either table fewer than pixels - 1,
@@ -47,20 +47,8 @@ module _ (k w h limit : ℕ) (f bytes out counted lost work : List ℕ) where
         darkest = pick met (darkest f) 0;
       }
 
--- what demand 3 says of a cut g at the limit, and of a size list with its darkest grey
-pub record AtLimit (k w h limit : ℕ) (f g counted lost : List ℕ) (dark : ℕ) : Type 0 where
-  -- the lightest plate that is nowhere lighter than f and whose regional maxima have at least the limit's pixels
-  pub nowhere-lighter : NowhereLighter g f
-  pub large-maxima : LargeMaxima k w h limit g
-  pub lightest : (other : List ℕ) → NowhereLighter other f → LargeMaxima k w h limit other → NowhereLighter other g
-  -- for each area the number of nodes, and the grey lost, which with the total of the cut at one more makes the total of the cut at that area
-  pub node-counts : (a : ℕ) → 1 ≤ a → a < w * h
-      → nth counted (a - 1) ≡ area (length (nodesOf k w f)) (λ (i : ℕ). eqb (areaOf (length f) (touch k w) (grey f) (nodesOf k w f) i) a)
-  pub grey-lost : (a : ℕ) → 1 ≤ a → a < w * h → nth lost (a - 1) + total (cut k w h (suc a) f) ≡ total (cut k w h a f)
-  -- all losses and the darkest grey over every pixel make the plate's total
-  pub whole : sum (w * h - 1) (nth lost) + dark * (w * h) ≡ total f
-
--- the contract: the answer, the outputs and the work space; where nothing is refused, an accepted plate, its greys bytes among the rest, and the claim
+-- the contract: the answer, the outputs and the work space; where nothing is refused, an accepted plate, its greys bytes among the rest, and demand 3's
+-- claims on its cut and its size list
 pub record WrittenCutListed (k w h limit : ℕ) (f bytes bytes′ out out′ counted counted′ lost lost′ work work′ : List ℕ) (r : CutListed) : Type 0
   where
     pub answer : r ≡ writeCutListAnswer k w h limit f bytes out counted lost work
@@ -70,5 +58,6 @@ pub record WrittenCutListed (k w h limit : ℕ) (f bytes bytes′ out out′ cou
     pub loss-table : lost′ ≡ outAfter (writeCutListRefusal k w h limit f bytes out counted lost work) (losses k w h f) lost
     pub space : work′ ≡ workAfter (workBegins k w h limit f bytes out counted lost work) (w * h) work
     pub accepted : writeCutListRefusal k w h limit f bytes out counted lost work ≡ 0 → Plate k w h f
-    pub claim : writeCutListRefusal k w h limit f bytes out counted lost work ≡ 0
-        → AtLimit k w h limit f (take (w * h) out′) counted′ lost′ (r .darkest)
+    pub is-cut : writeCutListRefusal k w h limit f bytes out counted lost work ≡ 0 → IsCut k w h limit f (take (w * h) out′)
+    pub is-list : writeCutListRefusal k w h limit f bytes out counted lost work ≡ 0
+        → IsSizeList k w h f counted′ lost′ (r .darkest) (λ (a : ℕ). total (cut k w h a f))
