@@ -1,7 +1,7 @@
 -- Laws of the columns of a tree that stands in the work space: its nodes, the node of a pixel, levels, parents, areas, what is held against the limit,
 -- children; and that the tree stands as long as its columns do.
 use mathlib.Core.Path.{_≡_, refl, sym, ap, _∙_}
-use mathlib.Core.Bool.{Bool}
+use mathlib.Core.Bool.{true}
 use mathlib.Core.List.{List}
 use Prim.Native.Nat.{ℕ, zero, suc, _-_, _≤_, _<_}
 use native.Mathlib.Nat.{le-trans}
@@ -9,6 +9,7 @@ use native.Mathlib.Omega.{arith}
 use lib.ListN.{length}
 use Rattle.meaning.specs.Cut.{darkest}
 use Rattle.meaning.specs.Nodes.{areaOf, holds, levelOf, own, parent}
+use Rattle.meaning.specs.Opening.{Attribute, attribute}
 use Rattle.meaning.specs.Paths.{Grid}
 use Rattle.meaning.specs.Plate.{greatestGrey, grey}
 use Rattle.meaning.specs.Sets.{area, elem, nth}
@@ -17,11 +18,12 @@ use Rattle.theory_lists.proofs.Sets.{area-le}
 use Rattle.theory_lists.proofs.Sums.{area-pos}
 use Rattle.theory_connectivity.proofs.Touch.{fits-grid}
 use Rattle.theory_tree.specs.Tree.{Nodes}
-use Rattle.theory_tree.proofs.Nodes.{nodes-distinct, nth-inside, over-holds, own-below, parent-area, parent-below, parent-level, root-area}
-use Rattle.theory_tree.proofs.Nodes.{self-over, some-node}
-use Rattle.theorems.proofs.Plates.{darkest-root, plate-nodes, plate-some}
+use Rattle.theory_tree.proofs.NodeSets.{anchor-holds}
+use Rattle.theory_tree.proofs.Nodes.{nodes-distinct, nth-inside, over-holds, own-below, parent-area, parent-below, parent-level, root-area, root-over}
+use Rattle.theory_tree.proofs.Nodes.{some-node}
+use Rattle.theorems.proofs.Plates.{darkest-root, plate-attribute, plate-nodes, plate-some}
 use Rattle.work_columns.specs.Columns.{Frame, Stored, col}
-use Rattle.work_columns.specs.Layout.{ANCHOR, AREA, GREY, LEVEL, OWN, PARENT, VALUE, greysIn, touchIn}
+use Rattle.work_columns.specs.Layout.{ANCHOR, AREA, ATTRIBUTE, GREY, LEVEL, OWN, PARENT, VALUE, greysIn, touchIn}
 use Rattle.work_columns.specs.declared.Shape.{Shape}
 use Rattle.work_columns.proofs.Columns.{frame-room}
 use Rattle.maxtree_columns.specs.Tree.{Attributed, Tree, TreeStands, nodesIn}
@@ -100,8 +102,11 @@ module _ {g : Shape} {f w : List ℕ} {count : ℕ} (t : Tree g f w count) where
   unfolding areaOf
   area-some i l =
       let b : i < length xs = omega (arith, t .nodes) in
-      let holds-own = over-holds tree-grid tree-nodes i (nth xs i) (self-over tree-grid tree-nodes i b) in
-      omega (arith, t .area-is i l, area-pos n (holds n (touchIn g) (grey f) xs i) (nth xs i) (nth-inside tree-grid tree-nodes i b) holds-own)
+      omega (
+        arith,
+        t .area-is i l,
+        area-pos n (holds n (touchIn g) (grey f) xs i) (nth xs i) (nth-inside tree-grid tree-nodes i b) (anchor-holds tree-grid tree-nodes i b),
+      )
 
   area-most : (j : ℕ) → areaOf n (touchIn g) (grey f) xs j ≤ n
   unfolding areaOf
@@ -125,6 +130,24 @@ module _ {g : Shape} {f w : List ℕ} {count : ℕ} (t : Tree g f w count) where
     attribute-is = λ i l.
         t .area-is i l ∙ ap (λ (m : ℕ). area m (holds n (touchIn g) (grey f) xs i)) (sym (t .pixels) ∙ t .plate .long);
   }
+
+  held : Attribute n (attribute (g .width) (g .height))
+  held = rw (t .pixels) at (plate-attribute (t .plate))
+
+  pub attribute-some : (i : ℕ) → i < count → 1 ≤ col ATTRIBUTE n w i
+  attribute-some i l =
+      let b : i < length xs = omega (arith, t .nodes) in
+      omega (
+        arith,
+        tree-attributed .attribute-is i l,
+        held .positive (holds n (touchIn g) (grey f) xs i) (nth xs i) (nth-inside tree-grid tree-nodes i b) (anchor-holds tree-grid tree-nodes i b),
+      )
+
+  pub attribute-root : n ≤ col ATTRIBUTE n w 0
+  attribute-root =
+      let all = held .increasing (λ q. true) (holds n (touchIn g) (grey f) xs 0)
+      (λ q l u. over-holds tree-grid tree-nodes 0 q (root-over tree-grid tree-nodes q l)) in
+      omega (arith, tree-attributed .attribute-is 0 some-nodes, held .all, all)
 
   -- ---- the tree stands as long as its columns do
 

@@ -15,7 +15,7 @@ use Rattle.meaning.specs.Sets.{area, bit, pick, sum, table}
 use Rattle.theory_lists.proofs.Lists.{getD-table, length-table, table-same}
 use Rattle.theory_lists.proofs.Sums.{area-sum, sum-cong}
 use Rattle.theory_lists.proofs.Tests.{choice, pick-le, pick-no, pick-yes}
-use Rattle.record_cut.specs.Sizes.{tally}
+use Rattle.record_sizes.specs.Sizes.{tally}
 
 -- a store into a table
 set-table : (m : ℕ) (g g′ : ℕ → ℕ) (a x : ℕ) → a < m → x ≡ g′ a → ((i : ℕ) → i < m → (i ≡ a → ⊥) → g i ≡ g′ i) → set (table m g) a x ≡ table m g′
@@ -36,12 +36,11 @@ set-table m g g′ a x l e other =
 -- ---- tallies
 
 module _ (c v : ℕ → ℕ) where
-  pub tally-more : (k a : ℕ) → tally c v (k + 1) a ≡ pick (eqb (c k) a) (v k) 0 + tally c v k a
+  tally-more : (k a : ℕ) → tally c v (k + 1) a ≡ pick (eqb (c k) a) (v k) 0 + tally c v k a
   unfolding tally sum
   tally-more k a = rw (add-one k)
 
-  -- before the first step
-  pub tally-none : (a : ℕ) → tally c v 0 a ≡ 0
+  tally-none : (a : ℕ) → tally c v 0 a ≡ 0
   unfolding tally sum
   tally-none a = refl
 
@@ -72,10 +71,14 @@ module _ (c v : ℕ → ℕ) where
       (omega (arith, tally-more k (suc a), pick-yes (eqb (c k) (suc a)) (v k) 0 (rw e (eqb-refl (suc a)))))
       (λ i h y. omega (arith, tally-more k (suc i), pick-no (eqb (c k) (suc i)) (v k) 0 (λ t. y (omega (arith, eqb→eq (c k) (suc i) t))))))
 
-  -- step 0 adds past the table
-  pub tallies-first : (m : ℕ) → m < c 0 → tallies m 1 ≡ table m (λ (i : ℕ). 0)
-  tallies-first m l = table-same m (λ (i : ℕ). tally c v 1 (suc i)) (λ (i : ℕ). 0) (λ i h.
-      omega (arith, tally-more 0 (suc i), tally-none (suc i), pick-no (eqb (c 0) (suc i)) (v 0) 0 (λ t. omega (arith, eqb→eq (c 0) (suc i) t))))
+  -- a step that adds past the table
+  pub tallies-past : (m k : ℕ) → m < c k → tallies m (k + 1) ≡ tallies m k
+  tallies-past m k l = table-same m (λ (i : ℕ). tally c v (k + 1) (suc i)) (λ (i : ℕ). tally c v k (suc i)) (λ i h.
+      omega (arith, tally-more k (suc i), pick-no (eqb (c k) (suc i)) (v k) 0 (λ t. omega (arith, eqb→eq (c k) (suc i) t))))
+
+  -- before the first step
+  pub tallies-none : (m : ℕ) → tallies m 0 ≡ table m (λ (i : ℕ). 0)
+  tallies-none m = table-same m (λ (i : ℕ). tally c v 0 (suc i)) (λ (i : ℕ). 0) (λ i h. tally-none (suc i))
 
 -- tallies of ones count
 pub tally-one : (c : ℕ → ℕ) (k a : ℕ) → tally c (λ (j : ℕ). 1) k a ≡ area k (λ (j : ℕ). eqb (c j) a)

@@ -1,10 +1,10 @@
--- `record_cut::clear_tables` meets its contract. The invariant: the first i entries are zero, and the others are as they were.
+-- `record_sizes::clear_tables` meets its contract. The invariant: the first i entries are zero, and the others are as they were.
 use Prim.Native.Nat.{_-_, _≤_}
 use native.Mathlib.Omega.{arith}
 use denote.Ref.{now}
-use Rattle.record_cut.proofs.clear_tables.Statement.{statement}
-use Rattle.record_cut.proofs.clear_tables.Tie as tie
-use Rattle.record_cut.proofs.Listing.{Zeroed, zeroed-done, zeroed-first, zeroed-more}
+use Rattle.record_sizes.proofs.clear_tables.Statement.{statement}
+use Rattle.record_sizes.proofs.clear_tables.Tie as tie
+use Rattle.record_sizes.proofs.Listing.{Zeroed, zeroed-done, zeroed-first, zeroed-more}
 
 abbrev Inv-loop : tie.InvT-loop
 Inv-loop counts₀ losses₀ m i₀ counts losses i = (i ≤ m) × (Zeroed counts₀ counts i × Zeroed losses₀ losses i)

@@ -1,0 +1,3 @@
+-- Laws of the size list from the columns.
+pub mod Tally
+pub mod Listing

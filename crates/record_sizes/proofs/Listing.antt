@@ -1,0 +1,229 @@
+-- The loops over the nodes that add into a table by attribute, and what they list of the plate.
+use mathlib.Core.Path.{_≡_, refl, sym, ap, _∙_}
+use mathlib.Core.Bool.{Bool}
+use mathlib.Core.List.{List, _++_}
+use Prim.Native.Nat.{ℕ, zero, suc, _+_, _-_, _*_, _≤_, _<_}
+use native.Mathlib.Nat.{mul-le-mul}
+use native.Mathlib.Omega.{arith}
+use lib.Dec.{eqb, eqb→eq}
+use lib.ListN.{length, getD, set, drop, length-set}
+use Rattle.meaning.specs.Answers.{over}
+use Rattle.meaning.specs.Cut.{countAt, counts, losses, lostAt}
+use Rattle.meaning.specs.Nodes.{areaOf, holds, parent, rise}
+use Rattle.meaning.specs.Opening.{attribute}
+use Rattle.meaning.specs.Plate.{grey}
+use Rattle.meaning.specs.Sets.{pick, span, sum, table}
+use Rattle.theory_lists.proofs.Lists.{table-same}
+use Rattle.theory_lists.proofs.Tests.{pick-no}
+use Rattle.theory_tree.proofs.Nodes.{parent-below}
+use Rattle.theorems.proofs.Plates.{plate-some}
+use Rattle.theorems.proofs.Theorems.{lost-is-sum}
+use Rattle.work_columns.specs.Columns.{col}
+use Rattle.work_columns.specs.Layout.{AREA, ATTRIBUTE, LEVEL, PARENT, touchIn}
+use Rattle.work_columns.specs.declared.Shape.{Shape}
+use Rattle.maxtree_columns.specs.Tree.{Tree, nodesIn}
+use Rattle.maxtree_columns.proofs.Tree.{area-part, attribute-root, attribute-some, level-low, tree-attributed, tree-grid, tree-nodes}
+use Rattle.maxtree_values.proofs.Tables.{written-more, written-over}
+use Rattle.record_sizes.specs.Sizes.{TableOf, byAttribute, lossOf, ones, tally, zeros}
+use Rattle.record_sizes.proofs.Tally.{over-drop, tallies-at, tallies-more, tallies-none, tallies-past, tally-cong, tally-le, tally-one}
+
+-- ---- the tables cleared
+
+-- the first i entries are zero, and the others are as they were
+pub record Zeroed (d₀ d : List ℕ) (i : ℕ) : Type 0 where
+  pub same : length d ≡ length d₀
+  pub made : d ≡ zeros i ++ drop i d₀
+
+pub zeroed-first : (d : List ℕ) → Zeroed d d 0
+unfolding table span
+zeroed-first d = record { same = refl; made = refl }
+
+pub zeroed-more : {d₀ d : List ℕ} {i : ℕ} → Zeroed d₀ d i → i < length d₀ → Zeroed d₀ (set d i 0) (i + 1)
+zeroed-more {d₀} {d} {i} z l = record { same = length-set d i 0 ∙ z .same; made = rw (z .made) (written-more (λ (j : ℕ). 0) i 0 d₀ l refl) }
+
+pub zeroed-done : {d₀ d : List ℕ} {i : ℕ} (m : ℕ) → Zeroed d₀ d i → i ≡ m → d ≡ over (zeros m) d₀
+zeroed-done {d₀} m z e = z .made ∙ rw e (written-over m (λ (j : ℕ). 0) d₀)
+
+-- what is written over zeros is written over what they stand in place of
+pub over-zeros : (d : List ℕ) {d₁ : List ℕ} (m : ℕ) (g : ℕ → ℕ) → d₁ ≡ over (zeros m) d → over (table m g) d₁ ≡ over (table m g) d
+over-zeros d {d₁} m g e =
+    sym (written-over m g d₁) ∙ ap (λ (l : List ℕ). table m g ++ l) (ap (drop m) e ∙ over-drop m (λ (j : ℕ). 0) d) ∙ written-over m g d
+
+pub zeros-there : (d : List ℕ) {d₁ : List ℕ} (m : ℕ) → d₁ ≡ over (zeros m) d → d₁ ≡ over (zeros m) d₁
+zeros-there d m e = e ∙ sym (over-zeros d m (λ (j : ℕ). 0) e)
+
+-- ---- the tables filled
+
+-- what is written over a table again
+over-again : (m : ℕ) (g h : ℕ → ℕ) (d t : List ℕ) → t ≡ over (table m g) d → over (table m h) t ≡ over (table m h) d
+over-again m g h d t e =
+    sym (written-over m h t) ∙ ap (λ (l : List ℕ). table m h ++ l) (ap (drop m) e ∙ over-drop m g d) ∙ written-over m h d
+
+-- from the entries that are read
+module _ (n : ℕ) (w : List ℕ) (j : ℕ) {p a l b : ℕ} (ep : p ≡ col PARENT n w j) (ea : a ≡ col AREA n w j) (el : l ≡ col LEVEL n w j)
+    (eb : b ≡ col LEVEL n w p) where
+  below-is : b ≡ col LEVEL n w (col PARENT n w j)
+  below-is = eb ∙ ap (col LEVEL n w) ep
+
+  pub loss-is : a * (l - b) ≡ lossOf n w j
+  loss-is = rw (ea, el, below-is)
+
+  pub below-low : col LEVEL n w (col PARENT n w j) < col LEVEL n w j → b ≤ l
+  below-low r = omega (arith, el, below-is)
+
+module _ {g : Shape} {f w : List ℕ} {count : ℕ} (t : Tree g f w count) where
+  abbrev n : ℕ
+  n = g .pixels
+
+  abbrev near : ℕ → ℕ → Bool
+  near = touchIn g
+
+  abbrev xs : List ℕ
+  xs = nodesIn g f
+
+  -- a node's loss is small
+  pub loss-low : (j : ℕ) → 0 < j → j < count → lossOf n w j ≤ 4278190080
+  loss-low j h l =
+      mul-le-mul {n₁ = col AREA n w j} {m₁ = col LEVEL n w j - col LEVEL n w (col PARENT n w j)} {n₂ = 16777216} {m₂ = 255}
+      (omega (arith, area-part t j h l, t .room .small))
+      (omega (arith, level-low t j l))
+
+  -- a node whose attribute is less than the pixels is not the root
+  pub inner : (j : ℕ) → j < count → col ATTRIBUTE n w j < n → 0 < j
+  inner zero l s = absurd (omega (arith, attribute-root t))
+  inner (suc j) l s = omega arith
+
+  -- ---- node j adds v j
+
+  module _ (v : ℕ → ℕ) {j : ℕ} {d : List ℕ} (table-of : TableOf n w v j d) (l : j < count) {a : ℕ} (e : a ≡ col ATTRIBUTE n w j) where
+    -- at no place of the table
+    pub added-past : n ≤ a → d ≡ over (byAttribute n w v (j + 1)) d
+    added-past h =
+        table-of .tallies ∙ ap (λ (x : List ℕ). over x d) (sym (tallies-past (col ATTRIBUTE n w) v (n - 1) j (omega (arith, t .pixels, plate-some (t .plate)))))
+
+    -- at the place of its attribute
+    module _ (h : a < n) where
+      pub added-place : (1 ≤ a) × (a - 1 < length d)
+      added-place = (omega (arith, attribute-some t j l), omega (arith, attribute-some t j l, table-of .places))
+
+      place : suc (a - 1) ≡ a
+      place = omega (arith, added-place)
+
+      over-is : d ≡ byAttribute n w v j ++ drop (n - 1) d
+      over-is = table-of .tallies ∙ sym (written-over (n - 1) (λ (i : ℕ). tally (col ATTRIBUTE n w) v j (suc i)) d)
+
+      -- what stands there
+      stands : getD d (a - 1) 0 ≡ tally (col ATTRIBUTE n w) v j a
+      stands =
+          ap (λ (x : List ℕ). getD x (a - 1) 0) over-is
+          ∙ tallies-at (col ATTRIBUTE n w) v (n - 1) j (a - 1) (drop (n - 1) d) (omega (arith, added-place))
+          ∙ ap (tally (col ATTRIBUTE n w) v j) place
+
+      -- it is small where each node adds little
+      pub added-low : (b : ℕ) → ((i : ℕ) → 0 < i → i < count → v i ≤ b) → getD d (a - 1) 0 ≤ j * b
+      added-low b low =
+          rw stands
+          (tally-le (col ATTRIBUTE n w) v b j a (λ i m x. low i (inner i (omega arith) (omega arith)) (omega arith)))
+
+      pub added : (x : ℕ) → x ≡ getD d (a - 1) 0 + v j → set d (a - 1) x ≡ over (byAttribute n w v (j + 1)) d
+      added x y =
+          ap (λ (s : List ℕ). set s (a - 1) x) over-is
+          ∙ tallies-more (col ATTRIBUTE n w) v (n - 1) j (a - 1) x (drop (n - 1) d) (omega (arith, added-place)) (omega (arith, place))
+          (omega (arith, stands, ap (tally (col ATTRIBUTE n w) v j) place))
+          ∙ written-over (n - 1) (λ (i : ℕ). tally (col ATTRIBUTE n w) v (j + 1) (suc i)) d
+
+  -- ---- the loop
+
+  module _ (v : ℕ → ℕ) where
+    pub tallying-zero : (d : List ℕ) {d₁ : List ℕ} → d₁ ≡ over (zeros (n - 1)) d → n - 1 ≤ length d₁ → TableOf n w v 0 d₁
+    tallying-zero d {d₁} z m = record {
+      places = m;
+      tallies = zeros-there d (n - 1) z ∙ ap (λ (x : List ℕ). over x d₁) (sym (tallies-none (col ATTRIBUTE n w) v (n - 1)));
+    }
+
+-- d is the table where the loop began
+pub record Listing (g : Shape) (w : List ℕ) (count : ℕ) (v : ℕ → ℕ) (d d′ : List ℕ) (j : ℕ) : Type 0 where
+  pub bound : j ≤ count
+  pub len : length d′ ≡ length d
+  pub places : g .pixels - 1 ≤ length d
+  pub made : d′ ≡ over (byAttribute (g .pixels) w v j) d
+
+module _ {g : Shape} {w : List ℕ} {count : ℕ} (v : ℕ → ℕ) {d : List ℕ} where
+  pub listing-first : TableOf (g .pixels) w v 0 d → Listing g w count v d d 0
+  listing-first t = record { bound = omega arith; len = refl; places = t .places; made = t .tallies }
+
+  module _ {d′ : List ℕ} {j : ℕ} (a : Listing g w count v d d′ j) where
+    abbrev m : ℕ
+    m = g .pixels - 1
+
+    abbrev at : ℕ → ℕ → ℕ
+    at k i = tally (col ATTRIBUTE (g .pixels) w) v k (suc i)
+
+    pub listing-table : TableOf (g .pixels) w v j d′
+    listing-table = record { places = omega (arith, a .len, a .places); tallies = a .made ∙ sym (over-again m (at j) (at j) d d′ (a .made)) }
+
+    pub listing-more : {d″ : List ℕ} → j < count → length d″ ≡ length d′ → d″ ≡ over (byAttribute (g .pixels) w v (j + 1)) d′
+        → Listing g w count v d d″ (j + 1)
+    listing-more l len e = record {
+      bound = omega arith;
+      len = len ∙ a .len;
+      places = a .places;
+      made = e ∙ over-again m (at j) (at (j + 1)) d d′ (a .made);
+    }
+
+    pub listing-done : count ≤ j → d′ ≡ over (byAttribute (g .pixels) w v count) d
+    listing-done l = let x : j ≡ count = omega (arith, a .bound) in rw x at (a .made)
+
+-- ---- what is listed of the plate
+
+module _ {g : Shape} {f w : List ℕ} {count : ℕ} (t : Tree g f w count) where
+  abbrev held : ℕ → ℕ
+  held j = attribute (g .width) (g .height) (holds (n t) (near t) (grey f) (xs t) j)
+
+  is-held : (j : ℕ) → j < count → col ATTRIBUTE (n t) w j ≡ held j
+  is-held = tree-attributed t .attribute-is
+
+  pub listed-counts : byAttribute (n t) w ones count ≡ counts (g .connectivity) (g .width) (g .height) f
+  unfolding counts countAt
+  listed-counts =
+      table-same (n t - 1) (λ (i : ℕ). tally (col ATTRIBUTE (n t) w) ones count (suc i))
+      (λ (i : ℕ). countAt (n t) (near t) (grey f) (xs t) (attribute (g .width) (g .height)) (suc i)) (λ i l.
+      tally-cong (col ATTRIBUTE (n t) w) ones held ones count (suc i) (λ j h. rw (is-held j h))
+      ∙ ap (λ (c : ℕ). tally held ones c (suc i)) (t .nodes) ∙ tally-one held (length (xs t)) (suc i))
+      ∙ rw (t .pixels)
+
+  -- the grey lost at each attribute
+  loss-same : (a : ℕ) → a < n t → (j : ℕ) → j < count
+      → pick (eqb (col ATTRIBUTE (n t) w j) a) (lossOf (n t) w j) 0
+      ≡ pick (eqb (held j) a) (areaOf (n t) (near t) (grey f) (xs t) j * rise (n t) (near t) (grey f) (xs t) j) 0
+  unfolding rise
+  loss-same a h zero l =
+      pick-no (eqb (col ATTRIBUTE (n t) w 0) a) (lossOf (n t) w 0) 0 (λ u. omega (arith, attribute-root t, eqb→eq (col ATTRIBUTE (n t) w 0) a u))
+      ∙ sym (pick-no (eqb (held 0) a) (areaOf (n t) (near t) (grey f) (xs t) 0 * rise (n t) (near t) (grey f) (xs t) 0) 0
+      (λ u. omega (arith, attribute-root t, is-held 0 l, eqb→eq (held 0) a u)))
+  loss-same a h (suc j) l =
+      let below : parent (n t) (near t) (grey f) (xs t) (suc j) < count =
+      omega (arith, parent-below (tree-grid t) (tree-nodes t) (suc j) (omega arith)) in
+      let loss : lossOf (n t) w (suc j) ≡ areaOf (n t) (near t) (grey f) (xs t) (suc j) * rise (n t) (near t) (grey f) (xs t) (suc j) =
+      rw (
+        t .area-is (suc j) l,
+        t .level-is (suc j) l,
+        t .parent-is (suc j) l,
+        t .level-is (parent (n t) (near t) (grey f) (xs t) (suc j)) below,
+      ) in
+      ap (λ (x : ℕ). pick (eqb x a) (lossOf (n t) w (suc j)) 0) (is-held (suc j) l) ∙ ap (λ (x : ℕ). pick (eqb (held (suc j)) a) x 0) loss
+
+  lost-is : (a : ℕ) → a < n t → lostAt (n t) (near t) (grey f) (xs t) (attribute (g .width) (g .height)) a
+      ≡ sum (length (xs t)) (λ (j : ℕ). pick (eqb (held j) a) (areaOf (n t) (near t) (grey f) (xs t) j * rise (n t) (near t) (grey f) (xs t) j) 0)
+  lost-is = rw (t .pixels) at (lost-is-sum (t .plate))
+
+  pub listed-losses : byAttribute (n t) w (lossOf (n t) w) count ≡ losses (g .connectivity) (g .width) (g .height) f
+  unfolding losses tally
+  listed-losses =
+      let part : ℕ → ℕ = λ (j : ℕ). areaOf (n t) (near t) (grey f) (xs t) j * rise (n t) (near t) (grey f) (xs t) j in
+      table-same (n t - 1) (λ (i : ℕ). tally (col ATTRIBUTE (n t) w) (lossOf (n t) w) count (suc i))
+      (λ (i : ℕ). lostAt (n t) (near t) (grey f) (xs t) (attribute (g .width) (g .height)) (suc i)) (λ i l.
+      tally-cong (col ATTRIBUTE (n t) w) (lossOf (n t) w) held part count (suc i) (loss-same (suc i) (omega arith))
+      ∙ ap (λ (c : ℕ). tally held part c (suc i)) (t .nodes)
+      ∙ sym (lost-is (suc i) (omega arith)))
+      ∙ rw (t .pixels)

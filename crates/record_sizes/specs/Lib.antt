@@ -1,0 +1,2 @@
+-- The size list from the columns of the tree.
+pub mod Sizes

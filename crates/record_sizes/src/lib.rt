@@ -1,0 +1,117 @@
+// The size list and the darkest grey of the plate whose component tree stands in the work space. These functions serve the operations on records, which
+// build the tree first.
+ghost use mathlib.Core.Path.{_≡_};
+ghost use Prim.Native.Nat.{_+_, _≤_, _<_};
+ghost use lib.ListN.{length};
+ghost use Rattle.meaning.specs.Answers.{over};
+ghost use Rattle.meaning.specs.Cut.{darkest};
+ghost use Rattle.work_columns.specs.Layout.{greysIn};
+ghost use Rattle.maxtree_columns.specs.Tree.{TreeStands};
+ghost use Rattle.record_sizes.specs.Sizes.{SizesWritten, TableOf, TablesFit, byAttribute, lossOf, ones, zeros};
+use work_columns::AREA;
+use work_columns::ATTRIBUTE;
+use work_columns::LEVEL;
+use work_columns::PARENT;
+use work_columns::Shape;
+
+// Sets the first m entries of both tables to zero.
+fn clear_tables(counts: &mut [u32], losses: &mut [u64], m: usize)
+    requires { ⌜ (m ≤ length (now counts)) × (m ≤ length (now losses)) ⌝ }
+    ensures { λ _. ⌜ now (counts .exit) ≡ over (zeros m) (now (counts .entry)) ⌝ }
+    ensures { λ _. ⌜ now (losses .exit) ≡ over (zeros m) (now (losses .entry)) ⌝ }
+{
+    let mut i: usize = 0;
+    while i < m {
+        counts[i] = 0;
+        losses[i] = 0;
+        i += 1;
+    }
+}
+
+// The grey lost with node j: its area times its rise above its parent's level.
+fn loss_of(w: &[u32], g: Shape, count: usize, j: usize) -> usize
+    requires { ⌜ TreeStands g (now w) count ⌝ }
+    requires { ⌜ (0 < j) × (j < count) ⌝ }
+    ensures { λ r. ⌜ (r ≡ lossOf (g .pixels) (now (w .entry)) j) × (r ≤ 4278190080) ⌝ }
+{
+    let parent = work_columns::get(w, g.pixels, PARENT, j);
+    let area = work_columns::get(w, g.pixels, AREA, j);
+    let level = work_columns::get(w, g.pixels, LEVEL, j);
+    let below = work_columns::get(w, g.pixels, LEVEL, parent);
+    area * (level - below)
+}
+
+// Counts node j at its attribute, where that is less than the pixels.
+fn count_node(w: &[u32], g: Shape, count: usize, j: usize, counts: &mut [u32])
+    requires { ⌜ TreeStands g (now w) count × (j < count) ⌝ }
+    requires { ⌜ TableOf (g .pixels) (now w) ones j (now counts) ⌝ }
+    ensures { λ _. ⌜ now (counts .exit) ≡ over (byAttribute (g .pixels) (now (w .entry)) ones (j + 1)) (now (counts .entry)) ⌝ }
+{
+    let attribute = work_columns::get(w, g.pixels, ATTRIBUTE, j);
+    if g.pixels <= attribute {
+        return;
+    }
+    counts[attribute - 1] += 1;
+}
+
+// Counts the nodes of each attribute from 1 to the pixels less one in a table that is zero there.
+fn count_nodes(w: &[u32], g: Shape, count: usize, counts: &mut [u32])
+    requires { ⌜ TreeStands g (now w) count ⌝ }
+    requires { ⌜ TableOf (g .pixels) (now w) ones 0 (now counts) ⌝ }
+    ensures { λ _. ⌜ now (counts .exit) ≡ over (byAttribute (g .pixels) (now (w .entry)) ones count) (now (counts .entry)) ⌝ }
+{
+    let mut j: usize = 0;
+    while j < count {
+        count_node(w, g, count, j, counts);
+        j += 1;
+    }
+}
+
+// Adds the grey lost with node j at its attribute, where that is less than the pixels.
+fn add_loss(w: &[u32], g: Shape, count: usize, j: usize, losses: &mut [u64])
+    requires { ⌜ TreeStands g (now w) count × (j < count) ⌝ }
+    requires { ⌜ TableOf (g .pixels) (now w) (lossOf (g .pixels) (now w)) j (now losses) ⌝ }
+    ensures { λ _. ⌜ now (losses .exit)
+        ≡ over (byAttribute (g .pixels) (now (w .entry)) (lossOf (g .pixels) (now (w .entry))) (j + 1)) (now (losses .entry)) ⌝ }
+{
+    let attribute = work_columns::get(w, g.pixels, ATTRIBUTE, j);
+    if g.pixels <= attribute {
+        return;
+    }
+    let loss = loss_of(w, g, count, j) as u64;
+    losses[attribute - 1] += loss;
+}
+
+// Adds up the grey lost with the nodes of each attribute from 1 to the pixels less one in a table that is zero there.
+fn sum_losses(w: &[u32], g: Shape, count: usize, losses: &mut [u64])
+    requires { ⌜ TreeStands g (now w) count ⌝ }
+    requires { ⌜ TableOf (g .pixels) (now w) (lossOf (g .pixels) (now w)) 0 (now losses) ⌝ }
+    ensures { λ _. ⌜ now (losses .exit)
+        ≡ over (byAttribute (g .pixels) (now (w .entry)) (lossOf (g .pixels) (now (w .entry))) count) (now (losses .entry)) ⌝ }
+{
+    let mut j: usize = 0;
+    while j < count {
+        add_loss(w, g, count, j, losses);
+        j += 1;
+    }
+}
+
+// Writes the size list of the plate: by attribute, the number of nodes and the grey lost.
+pub fn list_sizes(w: &[u32], g: Shape, count: usize, counts: &mut [u32], losses: &mut [u64])
+    requires { ⌜ TreeStands g (now w) count ⌝ }
+    requires { ⌜ TablesFit (g .pixels) (now counts) (now losses) ⌝ }
+    ensures { λ _. ⌜ SizesWritten g (now (w .entry)) (now (counts .entry)) (now (counts .exit)) (now (losses .entry)) (now (losses .exit)) ⌝ }
+{
+    let end = g.pixels - 1;
+    clear_tables(counts, losses, end);
+    count_nodes(w, g, count, counts);
+    sum_losses(w, g, count, losses);
+}
+
+// The plate's darkest grey, the root's level.
+pub fn darkest_of(w: &[u32], g: Shape, count: usize) -> u32
+    requires { ⌜ TreeStands g (now w) count ⌝ }
+    ensures { λ r. ⌜ r ≡ darkest (greysIn (g .pixels) (now (w .entry))) ⌝ }
+{
+    work_columns::get(w, g.pixels, LEVEL, 0) as u32
+}
