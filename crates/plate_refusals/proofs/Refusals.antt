@@ -44,6 +44,11 @@ pub refuse-none : (met : Bool) (number later : ℕ) → 0 < number → refuse me
 refuse-none true number later h e = absurd (omega arith)
 refuse-none false number later h e = (refl, e)
 
+-- one that is met
+pub refuse-met : (met : Bool) (number : ℕ) → (refuse met number 0 ≡ 0 → ⊥) → met ≡ true
+refuse-met true number x = refl
+refuse-met false number x = absurd (x refl)
+
 -- ---- the conditions that several operations share
 
 -- the plate that none of 1, 2 and 3 refuses
@@ -95,11 +100,7 @@ out-none needed out later e = let a = refuse-none (ltb out needed) 5 later (omeg
 
 -- and where it is not 0 it is 5
 pub out-met : (needed out : ℕ) → (outRefusal needed out 0 ≡ 0 → ⊥) → outRefusal needed out 0 ≡ 5
-out-met needed out x = go (ltb out needed) x
-  where
-    go : (met : Bool) → (refuse met 5 0 ≡ 0 → ⊥) → refuse met 5 0 ≡ 5
-    go true x = refl
-    go false x = absurd (x refl)
+out-met needed out x = rw (refuse-met (ltb out needed) 5 x)
 
 pub tables-none : (pixels counts losses later : ℕ) → tablesRefusal pixels counts losses later ≡ 0
     → ((pixels - 1 ≤ counts) × (pixels - 1 ≤ losses)) × (later ≡ 0)
