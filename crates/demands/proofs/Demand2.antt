@@ -5,7 +5,7 @@ use mathlib.Core.List.{List}
 use Prim.Native.Nat.{ℕ, _*_, _≤_}
 use native.Mathlib.Omega.{arith}
 use lib.ListN.{length, take}
-use Rattle.meaning.specs.Answers.{cleanRefusal}
+use Rattle.meaning.specs.Answers.{cleanRefusal, filterRefusal}
 use Rattle.meaning.specs.Opening.{cleaned, closed, darkSide, lightSide, opened, sideFits}
 use Rattle.meaning.specs.Plate.{negative}
 use Rattle.theorems.proofs.Plates.{closed-length, closed-negative, negative-length, negative-twice, opened-length, opened-plate}
@@ -18,8 +18,8 @@ use Rattle.demands.proofs.Claims.{over-nth, over-take}
 -- ---- one plate, cleaned on a side
 
 module _ (side limit : ℕ) {k w h : ℕ} {f out out′ work work′ : List ℕ} {r : ℕ} (a : Cleaned side k w h limit f out out′ work work′ r) (z : r ≡ 0) where
-  cleanable : Cleanable side k w h limit (length f) (length out) (length work)
-  cleanable = clean-none side k w h limit (length f) (length out) (length work) (sym (a .number) ∙ z)
+  cleanable : Cleanable side k w h limit f (length out) (length work)
+  cleanable = clean-none side k w h limit f (length out) (length work) (sym (a .number) ∙ z)
 
   -- a limit that is not refused is at most the pixels
   limit-fits : limit ≤ length f
@@ -57,7 +57,7 @@ module _ (limit : ℕ) {k w h : ℕ} {f out out′ work work′ : List ℕ} {r :
 module _ (limit : ℕ) {k w h : ℕ} {f out out′ work work′ lent lent′ space space′ : List ℕ} {r r′ : ℕ}
     (a : Cleaned lightSide k w h limit f out out′ work work′ r) (b : Cleaned darkSide k w h limit (negative f) lent lent′ space space′ r′) where
   alike : length lent ≡ length out → length space ≡ length work → r′ ≡ r
-  unfolding cleanRefusal sideFits
+  unfolding cleanRefusal filterRefusal sideFits
   alike x y = b .number ∙ rw (x, y, negative-length f) (sym (a .number))
 
   module _ (z : r ≡ 0) (z′ : r′ ≡ 0) where

@@ -6,8 +6,8 @@ use Prim.Native.Nat.{ℕ, _*_, _≤_}
 use native.Mathlib.Omega.{arith}
 use lib.Dec.{ltb}
 use lib.ListN.{length}
-use borrow.Author.Tests.{le-ltb, ltb-false}
-use Rattle.plate_refusals.proofs.Refusals.{refuse-none}
+use borrow.Author.Tests.{le-ltb}
+use Rattle.plate_refusals.proofs.Refusals.{out-none}
 use Rattle.record_parse.specs.Parse.{Parsed, early, late, plate, readOf}
 use Rattle.record_roundtrip.proofs.There.{read-there, record-injective}
 use Rattle.record_roundtrip.proofs.Exactly.{Numbered, read-exact, read-numbered}
@@ -19,8 +19,7 @@ accepted : (P : Parsed) (out : ℕ) → Numbered P → headOf (readRefusal P out
     → (k : ℕ) × ((w : ℕ) × ((h : ℕ) × ((f : List ℕ) × ((P ≡ plate k w h f) × (w * h ≤ out)))))
 accepted (early number) out l e = absurd (omega arith)
 accepted (late number pixels) out l e = absurd (omega arith)
-accepted (plate k w h f) out l e =
-    (k, (w, (h, (f, (refl, ltb-false out (w * h) (refuse-none (ltb out (w * h)) 5 0 (omega arith) e .0))))))
+accepted (plate k w h f) out l e = (k, (w, (h, (f, (refl, out-none (w * h) out 0 e .0)))))
 
 pub one-record : OneRecord
 one-record = record {

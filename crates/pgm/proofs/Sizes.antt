@@ -6,7 +6,7 @@ use native.Mathlib.Omega.{arith}
 use borrow.Author.Tests.{ltb-false, not-false}
 use lib.Dec.{eqb, ltb}
 use Rattle.meaning.specs.Plate.{gridFits, greatestGrey}
-use Rattle.plate_refusals.proofs.Refusals.{refuse-none}
+use Rattle.plate_refusals.proofs.Refusals.{out-none, refuse-none}
 use Rattle.pgm.specs.File.{rasterRefusal}
 
 -- a plate of width w and height h is read: `left` bytes follow its header, and the output's length is `room`
@@ -22,9 +22,8 @@ raster-none w h greatest left room e =
     let (white, e₂) = refuse-none (not (eqb greatest greatestGrey)) 12 _ (omega arith) e₁ in
     let (enough, e₃) = refuse-none (ltb left (w * h)) 14 _ (omega arith) e₂ in
     let (all, e₄) = refuse-none (ltb (w * h) left) 15 _ (omega arith) e₃ in
-    let (held, e₅) = refuse-none (ltb room (w * h)) 5 _ (omega arith) e₄ in
     record {
       sizes = not-false (gridFits w h) grid;
       long = omega (arith, ltb-false left (w * h) enough, ltb-false (w * h) left all);
-      fits = ltb-false room (w * h) held;
+      fits = out-none (w * h) room 0 e₄ .0;
     }

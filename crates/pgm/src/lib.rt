@@ -32,10 +32,7 @@ fn raster_refusal(width: u32, height: u32, greatest: u32, left: usize, room: usi
     if pixels < left {
         return 15;
     }
-    if room < pixels {
-        return 5;
-    }
-    0
+    plate_refusals::out_refusal(pixels, room)
 }
 
 // A refusal: its number, and zeros elsewhere.

@@ -8,7 +8,8 @@ use native.Mathlib.Omega.{arith}
 use lib.Dec.{T, leb, ltb, eqb, leb→le, eqb→eq}
 use lib.ListN.{length}
 use borrow.Author.Tests.{eqb-true, eq-eqb, not-false, ltb-false, le-ltb}
-use Rattle.meaning.specs.Answers.{cleanRefusal, filterRefusal, limitRefusal, maximaRefusal, outRefusal, plateRefusal, refuse, tablesRefusal, treeRefusal, workRefusal}
+use Rattle.meaning.specs.Answers.{cleanRefusal, filterRefusal, limitRefusal, maximaRefusal, outRefusal, plateRefusal, refuse, tablesRefusal}
+use Rattle.meaning.specs.Answers.{treeRefusal, workRefusal}
 use Rattle.meaning.specs.Opening.{darkSide, lightSide, sideFits}
 use Rattle.meaning.specs.Plate.{connectivityFits, gridFits, maxPixels}
 use Rattle.theory_connectivity.proofs.Sizes.{grid-sizes}
@@ -43,6 +44,11 @@ passed (stops number l p) e z later = absurd (omega (arith, l, p 0, e, z))
 pub refuse-none : (met : Bool) (number later : ℕ) → 0 < number → refuse met number later ≡ 0 → (met ≡ false) × (later ≡ 0)
 refuse-none true number later h e = absurd (omega arith)
 refuse-none false number later h e = (refl, e)
+
+-- one that is met
+pub refuse-met : (met : Bool) (number : ℕ) → (refuse met number 0 ≡ 0 → ⊥) → met ≡ true
+refuse-met true number x = refl
+refuse-met false number x = absurd (x refl)
 
 -- ---- the conditions that several operations share
 
@@ -95,11 +101,7 @@ out-none needed out later e = let a = refuse-none (ltb out needed) 5 later (omeg
 
 -- and where it is not 0 it is 5
 pub out-met : (needed out : ℕ) → (outRefusal needed out 0 ≡ 0 → ⊥) → outRefusal needed out 0 ≡ 5
-out-met needed out x = go (ltb out needed) x
-  where
-    go : (met : Bool) → (refuse met 5 0 ≡ 0 → ⊥) → refuse met 5 0 ≡ 5
-    go true x = refl
-    go false x = absurd (x refl)
+out-met needed out x = rw (refuse-met (ltb out needed) 5 x)
 
 pub tables-none : (pixels counts losses later : ℕ) → tablesRefusal pixels counts losses later ≡ 0
     → ((pixels - 1 ≤ counts) × (pixels - 1 ≤ losses)) × (later ≡ 0)
@@ -142,6 +144,26 @@ filter-none k w h limit f out work e =
     let (room, e₃) = out-none (w * h) out _ e₂ in
     record { taken = taken; limit-low = limited .0; limit-high = limited .1; room = room; space = work-none (w * h) work 0 e₃ .0 }
 
+-- p, q, s: what was found to be the refusals of the plate, of the limit and output, of the work space
+module _ (k w h limit : ℕ) (f : List ℕ) (out work : ℕ) {p : ℕ} (e : p ≡ plateRefusal k w h f 0) where
+  abbrev filterFurther : ℕ → ℕ
+  filterFurther n = limitRefusal n limit (outRefusal n out (workRefusal n work 0))
+
+  pub filter-plate : (p ≡ 0 → ⊥) → p ≡ filterRefusal k w h limit f out work
+  unfolding filterRefusal
+  filter-plate x = decided (plate-chain k w h f) e x (filterFurther (w * h))
+
+  module _ (z : p ≡ 0) {q : ℕ} (e₁ : q ≡ limitRefusal (length f) limit (outRefusal (length f) out 0)) where
+    filter-past : filterRefusal k w h limit f out work ≡ filterFurther (length f)
+    unfolding filterRefusal
+    filter-past = plate-later (plate-taken k w h f e z) filterFurther
+
+    pub filter-output : (q ≡ 0 → ⊥) → q ≡ filterRefusal k w h limit f out work
+    filter-output x = decided (cut-chain (length f) limit out) e₁ x (workRefusal (length f) work 0) ∙ sym filter-past
+
+    pub filter-space : q ≡ 0 → {s : ℕ} → s ≡ workRefusal (length f) work 0 → s ≡ filterRefusal k w h limit f out work
+    filter-space z₁ e₂ = e₂ ∙ sym (filter-past ∙ passed (cut-chain (length f) limit out) e₁ z₁ (workRefusal (length f) work 0))
+
 -- ---- cleaning
 
 side-known : (side : ℕ) → sideFits side ≡ true → (side ≡ lightSide) ⊎ (side ≡ darkSide)
@@ -176,6 +198,26 @@ maxima-none k w h f out work e =
     let (taken, e₁) = plate-none k w h f _ e in
     let (room, e₂) = out-none (w * h) out _ e₁ in
     record { taken = taken; room = room; space = work-none (w * h) work 0 e₂ .0 }
+
+-- p, q, s: what was found to be the refusals of the plate, of the output, of the work space
+module _ (k w h : ℕ) (f : List ℕ) (out work : ℕ) {p : ℕ} (e : p ≡ plateRefusal k w h f 0) where
+  abbrev maximaFurther : ℕ → ℕ
+  maximaFurther n = outRefusal n out (workRefusal n work 0)
+
+  pub maxima-plate : (p ≡ 0 → ⊥) → p ≡ maximaRefusal k w h f out work
+  unfolding maximaRefusal
+  maxima-plate x = decided (plate-chain k w h f) e x (maximaFurther (w * h))
+
+  module _ (z : p ≡ 0) {q : ℕ} (e₁ : q ≡ outRefusal (length f) out 0) where
+    maxima-past : maximaRefusal k w h f out work ≡ maximaFurther (length f)
+    unfolding maximaRefusal
+    maxima-past = plate-later (plate-taken k w h f e z) maximaFurther
+
+    pub maxima-output : (q ≡ 0 → ⊥) → q ≡ maximaRefusal k w h f out work
+    maxima-output x = decided (out-chain (length f) out) e₁ x (workRefusal (length f) work 0) ∙ sym maxima-past
+
+    pub maxima-space : q ≡ 0 → {s : ℕ} → s ≡ workRefusal (length f) work 0 → s ≡ maximaRefusal k w h f out work
+    maxima-space z₁ e₂ = e₂ ∙ sym (maxima-past ∙ passed (out-chain (length f) out) e₁ z₁ (workRefusal (length f) work 0))
 
 -- ---- the node list, writing a record
 

@@ -1,21 +1,17 @@
 -- The operations that read a record, where nothing is refused: the tree of its plate stands in the work space.
 use mathlib.Core.Path.{_≡_, sym, ap, _∙_}
-use mathlib.Core.Bool.{Bool, false, not, _&&_, _||_}
 use mathlib.Core.List.{List, _++_}
-use Prim.Native.Nat.{ℕ, _-_, _*_, _≤_}
+use Prim.Native.Nat.{ℕ, _*_, _≤_}
 use native.Mathlib.Omega.{arith}
-use lib.Dec.{T, leb, ltb, leb→le}
 use lib.ListN.{length, drop, replicate}
-use borrow.Author.Tests.{le-ltb, ltb-false, not-false}
-use Rattle.meaning.specs.Answers.{outRefusal, over, refuse}
+use Rattle.meaning.specs.Answers.{limitRefusal, outRefusal, over, tablesRefusal}
 use Rattle.meaning.specs.Cut.{darkest}
 use Rattle.meaning.specs.Nodes.{anchors, nodesOf}
 use Rattle.meaning.specs.Plate.{greatestGrey, touch}
 use Rattle.work_columns.specs.Columns.{Room}
 use Rattle.work_columns.proofs.Columns.{cleared, frame-trans}
 use Rattle.theory_connectivity.proofs.Sizes.{grid-sizes}
-use Rattle.theory_lists.proofs.Tests.{neither, passes, tests}
-use Rattle.plate_refusals.proofs.Refusals.{refuse-none}
+use Rattle.plate_refusals.proofs.Refusals.{limit-none, out-none, tables-none}
 use Rattle.record_parse.specs.Parse.{Parsed}
 use Rattle.record_parse.specs.Steps.{greysIn}
 use Rattle.record_cut.specs.Standing.{CutWritten, OfPlate, SizesWritten, Stands, TablesFit}
@@ -43,36 +39,36 @@ module _ {P : Parsed} {wd ht k count : ℕ} {work w₁ : List ℕ} (t : TreeFoun
   pub tree-stands : Stands (wd * ht) w₁ count
   tree-stands = record { k = k; wd = wd; ht = ht; f = f; standing = t .standing; pixels = long }
 
-  -- ---- reading
+  -- ---- reading. r, here and below: what was found to be the refusal by the operation's own conditions
 
-  pub read-greys : {out : List ℕ} → wd * ht ≤ length out → GreysStand (wd * ht) w₁ out
-  read-greys l = record { room = tree-room; greys = rw (← long) (t .standing .facts .tree .greys); places = l }
+  module _ {r : ℕ} {out : List ℕ} (e : r ≡ outRefusal (wd * ht) (length out) 0) (z : r ≡ 0) where
+    pub read-greys : GreysStand (wd * ht) w₁ out
+    read-greys = record {
+      room = tree-room;
+      greys = rw (← long) (t .standing .facts .tree .greys);
+      places = out-none (wd * ht) (length out) 0 (sym e ∙ z) .0;
+    }
 
-  pub read-done : {out out′ w₂ : List ℕ} → wd * ht ≤ length out → out′ ≡ over (greysIn (wd * ht) w₁) out
-      → w₂ ≡ replicate (8 * (wd * ht)) 0 ++ drop (8 * (wd * ht)) w₁
-      → ReadRecord P out out′ work w₂ (record { refusal = 0; width = wd; height = ht; connectivity = k })
-  read-done {out} l e c =
-      let z : ltb (length out) (wd * ht) ≡ false = le-ltb (length out) (wd * ht) l in
-      rw (t .is) (record { answer = rw z; output = rw z e; space = cleared (t .frame) c })
+    pub read-done : {out′ w₂ : List ℕ} → out′ ≡ over (greysIn (wd * ht) w₁) out
+        → w₂ ≡ replicate (8 * (wd * ht)) 0 ++ drop (8 * (wd * ht)) w₁
+        → ReadRecord P out out′ work w₂ (record { refusal = 0; width = wd; height = ht; connectivity = k })
+    read-done d c =
+        let y : outRefusal (wd * ht) (length out) 0 ≡ 0 = sym e ∙ z in
+        rw (t .is) (record { answer = rw y; output = rw y d; space = cleared (t .frame) c })
 
   -- ---- cutting
 
-  module _ {limit r : ℕ} (out : List ℕ) (e : r ≡ refuse (not (leb 1 limit && leb limit (wd * ht))) 4 (outRefusal (wd * ht) (length out) 0))
-      (z : r ≡ 0) where
+  module _ {limit r : ℕ} (out : List ℕ) (e : r ≡ limitRefusal (wd * ht) limit (outRefusal (wd * ht) (length out) 0)) (z : r ≡ 0) where
     pub cut-fits : (limit ≤ wd * ht) × (wd * ht ≤ length out)
     cut-fits =
-        let later : ℕ = outRefusal (wd * ht) (length out) 0 in
-        let fits : Bool = leb 1 limit && leb limit (wd * ht) in
-        let b = refuse-none (not fits) 4 later (omega arith) (sym e ∙ z) in
-        let c = refuse-none (ltb (length out) (wd * ht)) 5 0 (omega arith) (b .1) in
-        let u : T fits = passes (not-false fits (b .0)) in
-        (leb→le limit (wd * ht) (search tests), ltb-false (length out) (wd * ht) (c .0))
+        let (limited, e₁) = limit-none (wd * ht) limit (outRefusal (wd * ht) (length out) 0) (sym e ∙ z) in
+        (limited .1, out-none (wd * ht) (length out) 0 e₁ .0)
 
     pub cut-done : {out′ w₂ w₃ : List ℕ} → CutWritten limit (wd * ht) count w₁ w₂ out out′
         → w₃ ≡ replicate (8 * (wd * ht)) 0 ++ drop (8 * (wd * ht)) w₂
         → CutRecord P limit out out′ work w₃ (record { refusal = 0; width = wd; height = ht; connectivity = k })
     cut-done d c =
-        let y : refuse (not (leb 1 limit && leb limit (wd * ht))) 4 (outRefusal (wd * ht) (length out) 0) ≡ 0 = sym e ∙ z in
+        let y : limitRefusal (wd * ht) limit (outRefusal (wd * ht) (length out) 0) ≡ 0 = sym e ∙ z in
         rw (t .is) (record {
           answer = rw y;
           output = rw y (d .written k wd ht f (t .standing) long);
@@ -91,22 +87,22 @@ module _ {P : Parsed} {wd ht k count : ℕ} {work w₁ : List ℕ} (t : TreeFoun
   pub tree-nodes-few : count ≤ 16777216
   tree-nodes-few = omega (arith, tree-few, t .standing .facts .few-nodes, long)
 
-  module _ {counted lost : List ℕ} (z : (ltb (length counted) (wd * ht - 1) || ltb (length lost) (wd * ht - 1)) ≡ false) where
+  module _ {r : ℕ} {counted lost : List ℕ} (e : r ≡ tablesRefusal (wd * ht) (length counted) (length lost) 0) (z : r ≡ 0) where
     pub sizes-fit : TablesFit (wd * ht) counted lost
     sizes-fit =
-        let both = neither (ltb (length counted) (wd * ht - 1)) (ltb (length lost) (wd * ht - 1)) z in
-        record { counts-fit = ltb-false (length counted) (wd * ht - 1) (both .0); losses-fit = ltb-false (length lost) (wd * ht - 1) (both .1) }
+        let (fit, _) = tables-none (wd * ht) (length counted) (length lost) 0 (sym e ∙ z) in record { counts-fit = fit .0; losses-fit = fit .1 }
 
     pub sizes-done : {counted′ lost′ w₂ : List ℕ} {d : ℕ} → SizesWritten (wd * ht) count w₁ counted counted′ lost lost′
         → ((m : ℕ) → OfPlate (wd * ht) w₁ m (λ k wd ht f. d ≡ darkest f)) → w₂ ≡ replicate (8 * (wd * ht)) 0 ++ drop (8 * (wd * ht)) w₁
         → ListedSizes P counted counted′ lost lost′ work w₂
         (record { refusal = 0; width = wd; height = ht; connectivity = k; nodes = count; darkest = d })
     sizes-done s d c =
+        let y : tablesRefusal (wd * ht) (length counted) (length lost) 0 ≡ 0 = sym e ∙ z in
         let nodes : count ≡ length (nodesOf k wd f) = tree-nodes in
         let dark = d count k wd ht f (t .standing) long in
         rw (t .is) (record {
-          answer = rw (z, nodes, dark);
-          count-table = rw z (s .counted-is k wd ht f (t .standing) long);
-          loss-table = rw z (s .lost-is k wd ht f (t .standing) long);
+          answer = rw (y, nodes, dark);
+          count-table = rw y (s .counted-is k wd ht f (t .standing) long);
+          loss-table = rw y (s .lost-is k wd ht f (t .standing) long);
           space = cleared (t .frame) c;
         })

@@ -1,16 +1,16 @@
 -- The operations that read a record, where it is refused: up to 24, and by their own conditions 4 and 5. P: what reading finds up to 24.
 use mathlib.Core.Logic.{_⊎_, ⊎-elim}
 use mathlib.Core.Path.{_≡_, refl}
-use mathlib.Core.Bool.{true, false, not, _&&_, _||_}
+use mathlib.Core.Bool.{true, false}
 use mathlib.Core.List.{List, [], _∷_, _++_}
-use Prim.Native.Nat.{ℕ, _-_, _*_, _<_}
+use Prim.Native.Nat.{ℕ, _*_}
 use native.Mathlib.Omega.{arith}
-use lib.Dec.{eqb, leb, ltb}
+use lib.Dec.{eqb}
 use lib.ListN.{length, drop, replicate}
-use borrow.Author.Tests.{ne-eqb, lt-ltb}
+use borrow.Author.Tests.{ne-eqb}
 use types.Run.{OneOf}
 use denote.Enum.Declared.{tagOf}
-use Rattle.meaning.specs.Answers.{outRefusal, refuse, workAfter}
+use Rattle.meaning.specs.Answers.{limitRefusal, outRefusal, tablesRefusal, workAfter}
 use Rattle.work_columns.specs.Columns.{Frame}
 use Rattle.work_columns.proofs.Columns.{cleared}
 use Rattle.record_parse.specs.Parse.{Parsed, early, late, plate}
@@ -68,21 +68,23 @@ sizes-stopped counted lost (zeroed c) = record { answer = refl; count-table = re
 
 module _ {P : Parsed} {k wd ht : ℕ} {f : List ℕ} (is : P ≡ plate k wd ht f) {work w₁ : List ℕ} (fr : Frame (wd * ht) work w₁) where
   -- reading: 5
-  pub read-short : {out w₂ : List ℕ} → length out < wd * ht → w₂ ≡ replicate (8 * (wd * ht)) 0 ++ drop (8 * (wd * ht)) w₁
-      → ReadRecord P out out work w₂ (noHead 5)
-  read-short {out} l c =
-      let z : ltb (length out) (wd * ht) ≡ true = lt-ltb (length out) (wd * ht) l in
-      rw is (record { answer = rw z; output = rw z; space = cleared fr c })
+  pub read-refused : {r : ℕ} {out w₂ : List ℕ} → r ≡ outRefusal (wd * ht) (length out) 0 → (r ≡ 0 → ⊥)
+      → w₂ ≡ replicate (8 * (wd * ht)) 0 ++ drop (8 * (wd * ht)) w₁ → ReadRecord P out out work w₂ (noHead r)
+  read-refused {r} e x c =
+      let z : eqb r 0 ≡ false = ne-eqb r 0 x in
+      rw is (record { answer = rw (← e, z); output = rw (← e, z); space = cleared fr c })
 
   -- cutting: 4, 5
   pub cut-refused : {limit r : ℕ} {out w₂ : List ℕ}
-      → r ≡ refuse (not (leb 1 limit && leb limit (wd * ht))) 4 (outRefusal (wd * ht) (length out) 0) → (r ≡ 0 → ⊥)
+      → r ≡ limitRefusal (wd * ht) limit (outRefusal (wd * ht) (length out) 0) → (r ≡ 0 → ⊥)
       → w₂ ≡ replicate (8 * (wd * ht)) 0 ++ drop (8 * (wd * ht)) w₁ → CutRecord P limit out out work w₂ (noHead r)
   cut-refused {limit} {r} e x c =
       let z : eqb r 0 ≡ false = ne-eqb r 0 x in
       rw is (record { answer = rw (← e, z); output = rw (← e, z); space = cleared fr c })
 
   -- the size list: 5
-  pub sizes-short : {counted lost w₂ : List ℕ} → (ltb (length counted) (wd * ht - 1) || ltb (length lost) (wd * ht - 1)) ≡ true
-      → w₂ ≡ replicate (8 * (wd * ht)) 0 ++ drop (8 * (wd * ht)) w₁ → ListedSizes P counted counted lost lost work w₂ (noSizes 5)
-  sizes-short z c = rw is (record { answer = rw z; count-table = rw z; loss-table = rw z; space = cleared fr c })
+  pub sizes-refused : {r : ℕ} {counted lost w₂ : List ℕ} → r ≡ tablesRefusal (wd * ht) (length counted) (length lost) 0 → (r ≡ 0 → ⊥)
+      → w₂ ≡ replicate (8 * (wd * ht)) 0 ++ drop (8 * (wd * ht)) w₁ → ListedSizes P counted counted lost lost work w₂ (noSizes r)
+  sizes-refused {r} e x c =
+      let z : eqb r 0 ≡ false = ne-eqb r 0 x in
+      rw is (record { answer = rw (← e, z); count-table = rw (← e, z); loss-table = rw (← e, z); space = cleared fr c })

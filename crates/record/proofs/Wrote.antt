@@ -2,13 +2,13 @@
 use mathlib.Core.Path.{_≡_, refl, sym, ap, _∙_}
 use mathlib.Core.Bool.{true, false}
 use mathlib.Core.List.{List, _++_}
-use Prim.Native.Nat.{ℕ, _*_, _≤_, _<_}
+use Prim.Native.Nat.{ℕ, _*_}
 use lib.Dec.{eqb}
 use lib.ListN.{length, drop, replicate}
-use borrow.Author.Tests.{ne-eqb, lt-ltb, le-ltb}
+use borrow.Author.Tests.{ne-eqb}
 use Rattle.meaning.specs.Answers.{outRefusal, over, plateRefusal, workAfter, workRefusal}
 use Rattle.meaning.specs.Record.{recordOf}
-use Rattle.plate_refusals.proofs.Refusals.{Listable, tree-early, tree-first, tree-later, plate-later}
+use Rattle.plate_refusals.proofs.Refusals.{Listable, out-met, plate-later, tree-early, tree-first, tree-later}
 use Rattle.plate_greys.specs.Standing.{Standing}
 use Rattle.plate_greys.specs.Tree.{PlateTree, PlateReady}
 use Rattle.work_columns.proofs.Columns.{cleared}
@@ -17,23 +17,22 @@ use Rattle.record_fields.proofs.Standing.{standing-here, standing-plate}
 use Rattle.record.specs.Writing.{WrittenRecord, writeAnswer, writeOut, writeRefusal, writeWork}
 
 -- a refusal by 1, 2, 3 or 6
-pub wrote-refused : (k w h : ℕ) (f out work : List ℕ) {r : ℕ} → r ≡ plateRefusal k w h (length f) (workRefusal w h (length work) 0) → (r ≡ 0 → ⊥)
+pub wrote-refused : (k w h : ℕ) (f out work : List ℕ) {r : ℕ} → r ≡ plateRefusal k w h f (workRefusal (w * h) (length work) 0) → (r ≡ 0 → ⊥)
     → WrittenRecord k w h f out out work work (record { refusal = r; length = 0 })
 unfolding writeRefusal writeAnswer writeOut writeWork
 wrote-refused k w h f out work {r} e x =
     let z : eqb r 0 ≡ false = ne-eqb r 0 x in
-    let y : eqb r 5 ≡ false = ne-eqb r 5 (λ u. tree-early k w h (length f) (length work) (sym e ∙ u)) in
-    let first = tree-first k w h (length f) (length work) (length (recordOf k w h f)) (length out) (λ u. x (e ∙ u)) in
-    let is : writeRefusal k w h f out work ≡ r = first ∙ sym e in
+    let y : eqb r 5 ≡ false = ne-eqb r 5 (tree-early k w h f (length work) e) in
+    let is : writeRefusal k w h f out work ≡ r = sym (tree-first k w h f (length work) e x (length (recordOf k w h f)) (length out)) in
     record { answer = rw (is, z); output = rw (is, z); space = rw (is, z, y); accepted = λ none. absurd (x (sym is ∙ none)) }
 
 -- the tree can be made
-pub wrote-ready : {k w h : ℕ} {f work : List ℕ} → Listable k w h (length f) (length work) → PlateReady k w h f work
-wrote-ready {k} {w} {h} {f} l = record { taken = plate-later k w h (length f) 0 (l .taken); room = l .space }
+pub wrote-ready : {k w h : ℕ} {f work : List ℕ} → Listable k w h f (length work) → PlateReady k w h f work
+wrote-ready {k} {w} {h} {f} l = record { taken = plate-later (l .taken) (λ _. 0); room = l .space }
 
 -- nothing but 5 is left to refuse, and the tree is made
 pub record TreeMade (k w h : ℕ) (f work w₁ : List ℕ) (count : ℕ) : Type 0 where
-  pub listable : Listable k w h (length f) (length work)
+  pub listable : Listable k w h f (length work)
   pub tree : PlateTree false k w h f work w₁ count
 
 module _ {k w h : ℕ} {f work w₁ : List ℕ} {count : ℕ} (g : TreeMade k w h f work w₁ count) where
@@ -48,7 +47,7 @@ module _ {k w h : ℕ} {f work w₁ : List ℕ} {count : ℕ} (g : TreeMade k w 
 
   refusal-is : (out : List ℕ) → writeRefusal k w h f out work ≡ outRefusal (length (recordOf k w h f)) (length out) 0
   unfolding writeRefusal
-  refusal-is out = tree-later k w h (length f) (length work) (length (recordOf k w h f)) (length out) (g .listable)
+  refusal-is out = tree-later (g .listable) (length (recordOf k w h f)) (length out)
 
   module _ {size : ℕ} (m : size ≡ length (recordOf k w h (greysIn (length f) w₁))) {w₂ : List ℕ}
       (c : w₂ ≡ replicate (8 * length f) 0 ++ drop (8 * length f) w₁) where
@@ -59,16 +58,18 @@ module _ {k w h : ℕ} {f work w₁ : List ℕ} {count : ℕ} (g : TreeMade k w 
     zeroed = rw (← (g .listable .taken .long)) (cleared (g .tree .frame) c)
 
     -- 5
-    pub wrote-short : {out : List ℕ} → length out < size → WrittenRecord k w h f out out work w₂ (record { refusal = 5; length = 0 })
+    pub wrote-short : {r : ℕ} {out : List ℕ} → r ≡ outRefusal size (length out) 0 → (r ≡ 0 → ⊥)
+        → WrittenRecord k w h f out out work w₂ (record { refusal = r; length = 0 })
     unfolding writeAnswer writeOut writeWork
-    wrote-short {out} l =
-        let is : writeRefusal k w h f out work ≡ 5 = refusal-is out ∙ rw (lt-ltb (length out) (length (recordOf k w h f)) (rw size-is at l)) in
-        record { answer = rw is; output = rw is; space = rw is zeroed; accepted = λ none. plate-tree-standing .plate }
+    wrote-short {r} {out} e x =
+        let five : r ≡ 5 = e ∙ out-met size (length out) (λ u. x (e ∙ u)) in
+        let is : writeRefusal k w h f out work ≡ 5 = refusal-is out ∙ rw (← size-is) (sym e ∙ five) in
+        record { answer = rw (is, five); output = rw is; space = rw is zeroed; accepted = λ none. plate-tree-standing .plate }
 
     -- the record
-    pub wrote-done : {out out′ : List ℕ} → size ≤ length out → out′ ≡ over (recordOf k w h (greysIn (length f) w₁)) out
+    pub wrote-done : {r : ℕ} {out out′ : List ℕ} → r ≡ outRefusal size (length out) 0 → r ≡ 0 → out′ ≡ over (recordOf k w h (greysIn (length f) w₁)) out
         → WrittenRecord k w h f out out′ work w₂ (record { refusal = 0; length = size })
     unfolding writeAnswer writeOut writeWork
-    wrote-done {out} l d =
-        let is : writeRefusal k w h f out work ≡ 0 = refusal-is out ∙ rw (le-ltb (length out) (length (recordOf k w h f)) (rw size-is at l)) in
+    wrote-done {r} {out} e z d =
+        let is : writeRefusal k w h f out work ≡ 0 = refusal-is out ∙ rw (← size-is) (sym e ∙ z) in
         record { answer = rw (is, size-is); output = rw is (rw plain at d); space = rw is zeroed; accepted = λ none. plate-tree-standing .plate }

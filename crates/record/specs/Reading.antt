@@ -1,14 +1,14 @@
 -- Reading a record, cutting it, its size list. Each starts from what reading finds up to 24 (`readOf` of the crate `record_parse`).
-use mathlib.Core.Bool.{true, _||_}
+use mathlib.Core.Bool.{true}
 use mathlib.Core.Path.{_≡_}
 use mathlib.Core.List.{List}
-use Prim.Native.Nat.{ℕ, _-_, _*_}
-use lib.Dec.{eqb, ltb}
+use Prim.Native.Nat.{ℕ, _*_}
+use lib.Dec.{eqb}
 use lib.ListN.{length}
 use Rattle.meaning.specs.Sets.{pick}
 use Rattle.meaning.specs.Nodes.{nodesOf}
 use Rattle.meaning.specs.Cut.{cut, counts, losses, darkest}
-use Rattle.meaning.specs.Answers.{refuse, limitRefusal, outRefusal, outAfter, workAfter}
+use Rattle.meaning.specs.Answers.{limitRefusal, outRefusal, tablesRefusal, outAfter, workAfter}
 use Rattle.record_parse.specs.Parse.{Parsed, early, late, plate}
 use Rattle.record.specs.declared.Head.{Head}
 use Rattle.record.specs.declared.SizeHead.{SizeHead}
@@ -50,15 +50,15 @@ readOut p out = parsedOut (readRefusal p (length out)) p (λ k w h f. f) out
 -- ---- cutting: 4, 5
 
 abbrev pub cutRefusal : Parsed → ℕ → ℕ → ℕ
-cutRefusal p limit out = parsedRefusal p λ w h. limitRefusal w h limit (outRefusal (w * h) out 0)
+cutRefusal p limit out = parsedRefusal p λ w h. limitRefusal (w * h) limit (outRefusal (w * h) out 0)
 
 abbrev pub cutOut : Parsed → ℕ → List ℕ → List ℕ
 cutOut p limit out = parsedOut (cutRefusal p limit (length out)) p (λ k w h f. cut k w h limit f) out
 
--- ---- size list: 5 when either table has fewer than pixels - 1 places
+-- ---- size list: 5
 
 abbrev pub sizeRefusal : Parsed → ℕ → ℕ → ℕ
-sizeRefusal p countPlaces lossPlaces = parsedRefusal p λ w h. refuse (ltb countPlaces (w * h - 1) || ltb lossPlaces (w * h - 1)) 5 0
+sizeRefusal p countPlaces lossPlaces = parsedRefusal p λ w h. tablesRefusal (w * h) countPlaces lossPlaces 0
 
 abbrev pub sizeHeadOf : ℕ → Parsed → SizeHead
 sizeHeadOf refusal (early number) = record { refusal = refusal; width = 0; height = 0; connectivity = 0; nodes = 0; darkest = 0 }

@@ -14,7 +14,7 @@ module _ (k w h : ℕ) (f out work : List ℕ) where
   -- 1, 2, 3, 6, then 5 when the record needs more bytes than were lent
   unfoldable pub writeRefusal : ℕ
   unfolding treeRefusal recordOf
-  writeRefusal = treeRefusal k w h (length f) (length (recordOf k w h f)) (length out) (length work)
+  writeRefusal = treeRefusal k w h f (length (recordOf k w h f)) (length out) (length work)
 
   unfoldable pub writeAnswer : Written
   unfolding writeRefusal

@@ -1,10 +1,6 @@
 // Records: writing one, reading one, cutting one at a limit, the size list of one. Operations that callers use, and that require nothing.
 ghost use mathlib.Core.Path.{_≡_};
-ghost use mathlib.Core.Bool.{not, _&&_, _||_};
-ghost use Prim.Native.Nat.{_-_};
-ghost use lib.Dec.{leb, ltb};
 ghost use lib.ListN.{length};
-ghost use Rattle.meaning.specs.Answers.{refuse, outRefusal};
 ghost use Rattle.record_parse.specs.Parse.{readOf};
 ghost use Rattle.record.specs.Writing.{WrittenRecord};
 ghost use Rattle.record.specs.Reading.{ReadRecord, CutRecord, ListedSizes};
@@ -71,36 +67,6 @@ fn refused_sizes(number: u32) -> SizeHead
     }
 }
 
-// Is a limit from 1 to the pixels?
-fn limit_fits(limit: usize, n: usize) -> bool
-    ensures { λ r. ⌜ r ≡ (leb 1 limit && leb limit n) ⌝ }
-{
-    1 <= limit && limit <= n
-}
-
-// The first of the refusals 4 and 5 of cutting that applies, else 0.
-fn cut_refusal(limit: usize, n: usize, places: usize) -> u32
-    ensures { λ r. ⌜ r ≡ refuse (not (leb 1 limit && leb limit n)) 4 (outRefusal n places 0) ⌝ }
-{
-    if !limit_fits(limit, n) {
-        return 4;
-    }
-    if places < n {
-        return 5;
-    }
-    0
-}
-
-// Has either table fewer than n - 1 places?
-pub fn tables_short(n: usize, counts: usize, losses: usize) -> bool
-    ensures { λ r. ⌜ r ≡ (ltb counts (n - 1) || ltb losses (n - 1)) ⌝ }
-{
-    if n == 0 {
-        return false;
-    }
-    counts < n - 1 || losses < n - 1
-}
-
 // Writes the record of a plate with its connectivity.
 pub fn write_record(
     image: &[u8],
@@ -113,15 +79,16 @@ pub fn write_record(
     ensures { λ r. ⌜ WrittenRecord connectivity width height (now (image .entry)) (now (out .entry)) (now (out .exit)) (now (work .entry)) (now (work .exit)) r ⌝ }
 {
     let n = image.len();
-    let refusal = plate_refusals::tree_refusal(connectivity, width, height, n, work.len());
+    let refusal = plate_refusals::tree_refusal(connectivity, width, height, image, work.len());
     if refusal != 0 {
         return refused_written(refusal);
     }
     let count = plate_tree::plate_tree(image, false, width, height, connectivity, work);
     let size = record_fields::measure(work, n, width, height, connectivity, count);
-    if out.len() < size {
+    let short = plate_refusals::out_refusal(size, out.len());
+    if short != 0 {
         work_columns::clear(work, n);
-        return refused_written(5);
+        return refused_written(short);
     }
     record_fields::write(work, n, width, height, connectivity, count, out);
     work_columns::clear(work, n);
@@ -140,9 +107,10 @@ pub fn read_record(bytes: &[u8], out: &mut [u8], work: &mut [u32]) -> Head
         return refused_head(record_tree::give_up(f, work));
     };
     let n = (width * height) as usize;
-    if out.len() < n {
+    let refusal = plate_refusals::out_refusal(n, out.len());
+    if refusal != 0 {
         work_columns::clear(work, n);
-        return refused_head(5);
+        return refused_head(refusal);
     }
     record_tree::write_greys(work, n, out);
     work_columns::clear(work, n);
@@ -163,7 +131,7 @@ pub fn cut_record(bytes: &[u8], limit: u32, out: &mut [u8], work: &mut [u32]) ->
         return refused_head(record_tree::give_up(f, work));
     };
     let n = (width * height) as usize;
-    let refusal = cut_refusal(limit as usize, n, out.len());
+    let refusal = plate_refusals::cut_refusal(limit, n, out.len());
     if refusal != 0 {
         work_columns::clear(work, n);
         return refused_head(refusal);
@@ -187,9 +155,10 @@ pub fn size_list(bytes: &[u8], counts: &mut [u32], losses: &mut [u64], work: &mu
         return refused_sizes(record_tree::give_up(f, work));
     };
     let n = (width * height) as usize;
-    if tables_short(n, counts.len(), losses.len()) {
+    let refusal = plate_refusals::tables_refusal(n, counts.len(), losses.len());
+    if refusal != 0 {
         work_columns::clear(work, n);
-        return refused_sizes(5);
+        return refused_sizes(refusal);
     }
     record_cut::list_sizes(work, n, count, counts, losses);
     let darkest = record_cut::darkest_of(work, n);

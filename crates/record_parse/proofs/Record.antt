@@ -10,7 +10,9 @@ use Rattle.record_parse.specs.declared.Parse.{Parse}
 use Rattle.record_parse.specs.declared.Parse.the-variants.{Early, Late, Plate}
 use Rattle.record_parse.specs.declared.Step.{Step}
 use Rattle.record_parse.specs.declared.Step.the-variants.{Next, Refused}
+use Rattle.meaning.specs.Answers.{workRefusal}
 use Rattle.meaning.specs.Plate.{connectivityFits, maxPixels, maxExtent}
+use Rattle.plate_refusals.proofs.Refusals.{refuse-met}
 use Rattle.meaning.specs.Sets.{pick}
 use Rattle.work_columns.specs.Columns.{Room}
 use Rattle.work_columns.specs.Layout.{greysIn}
@@ -81,8 +83,8 @@ module _ {s : List ℕ} {work : ℕ} where
 
   module _ {w h k count at : ℕ} (t : AfterCount s work w h k count at) where
     -- work space shorter than 8 × pixels
-    pub too-short : work < 8 * (w * h) → parse s work ≡ early 6
-    too-short l = t .parsed ∙ rw (lt-ltb work (8 * (w * h)) l)
+    pub too-short : {r : ℕ} → r ≡ workRefusal (w * h) work 0 → (r ≡ 0 → ⊥) → parse s work ≡ early r
+    too-short e x = t .parsed ∙ rw (e, refuse-met (ltb work (8 * (w * h))) 6 (λ u. x (e ∙ u)))
 
     pub begun : 8 * (w * h) ≤ work → parse s work ≡ fromRoot s k w h count at
     begun l = t .parsed ∙ rw (le-ltb work (8 * (w * h)) l)

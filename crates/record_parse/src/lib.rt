@@ -145,8 +145,9 @@ pub fn parse_record(s: &[u8], work: &mut [u32]) -> Parse
         return Parse::Early(record_varint::refusal(f4));
     };
     let n = pixels as usize;
-    if work.len() < 8 * n {
-        return Parse::Early(6);
+    let space = plate_refusals::work_refusal(n, work.len());
+    if space != 0 {
+        return Parse::Early(space);
     }
     let tree = read_tree_fields(s, at4, work, n, count as usize);
     if let Step::Refused(number) = tree {

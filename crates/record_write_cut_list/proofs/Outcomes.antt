@@ -1,20 +1,20 @@
 -- What `write_cut_list` leaves: on a refusal, and with the record, the cut and the size list written.
-use mathlib.Core.Path.{_≡_, refl, sym, ap, _∙_}
+use mathlib.Core.Path.{_≡_, sym, ap, _∙_}
 use mathlib.Core.Bool.{Bool, true, false}
 use mathlib.Core.List.{List, _++_}
 use Prim.Native.Nat.{ℕ, _+_, _-_, _*_, _≤_}
 use native.Mathlib.Omega.{arith}
-use lib.Dec.{eqb, ltb}
+use lib.Dec.{eqb}
 use lib.ListN.{length, drop, replicate, take, length-append, length-drop, length-replicate}
 use lib.Seq.{drop-at}
 use borrow.Author.Tests.{ne-eqb, le-ltb}
-use Rattle.meaning.specs.Answers.{outRefusal, over, refuse, workAfter}
+use Rattle.meaning.specs.Answers.{outRefusal, over, workAfter}
 use Rattle.meaning.specs.Cut.{counts, cut, darkest, losses, total}
 use Rattle.meaning.specs.Nodes.{nodesOf}
 use Rattle.meaning.specs.Plate.{Plate}
 use Rattle.meaning.specs.Record.{recordOf}
 use Rattle.meaning.specs.Sets.{pick}
-use Rattle.plate_refusals.proofs.Refusals.{Filterable, tree-later}
+use Rattle.plate_refusals.proofs.Refusals.{Chain, Filterable, Taken, decided, out-met, passed, tree-later}
 use Rattle.record_parse.specs.Parse.{plate, readOf}
 use Rattle.record_roundtrip.proofs.There.{read-there}
 use Rattle.record.specs.declared.Head.{Head}
@@ -26,7 +26,7 @@ use Rattle.demands.proofs.Claims.{is-cut, is-list, over-take}
 use Rattle.demands.proofs.Demand3.{cut-length, cut-zero, size-zero}
 use Rattle.record_write_cut_list.specs.declared.CutListed.{CutListed}
 use Rattle.record_write_cut_list.specs.WriteCutList.{WrittenCutListed, earlyRefusal, workBegins, writeCutListAnswer, writeCutListRefusal}
-use Rattle.record_write_cut_list.proofs.Conditions.{Fits, early-first, early-fits, early-later}
+use Rattle.record_write_cut_list.proofs.Conditions.{Fits, early-chain, early-fits, early-later}
 
 -- the answer that refuses
 abbrev refusedBy : ℕ → CutListed
@@ -56,21 +56,19 @@ zeroed-again n work =
     let zeros : List ℕ = replicate (8 * n) 0 in
     ap (λ (t : List ℕ). zeros ++ t) (drop-at zeros (drop (8 * n) work) (8 * n) (length-replicate {A = ℕ} (8 * n) 0))
 
--- 5 or nothing
-five : (b : Bool) → (refuse b 5 0 ≡ 0 → ⊥) → refuse b 5 0 ≡ 5
-five true x = refl
-five false x = absurd (x refl)
-
 -- ---- the ways out
 
 module _ (k w h limit : ℕ) (f bytes out counted lost work : List ℕ) {e : ℕ}
-    (is : e ≡ earlyRefusal k w h limit (length f) (length out) (length counted) (length lost) (length work) 0) where
+    (is : e ≡ earlyRefusal k w h limit f (length out) (length counted) (length lost) (length work) 0) where
   abbrev refusal : ℕ
   refusal = writeCutListRefusal k w h limit f bytes out counted lost work
 
   -- the record needs more bytes
   abbrev recordShort : ℕ
   recordShort = outRefusal (length (recordOf k w h f)) (length bytes) 0
+
+  chain : Chain (earlyRefusal k w h limit f (length out) (length counted) (length lost) (length work))
+  chain = early-chain k w h limit f (length out) (length counted) (length lost) (length work)
 
   begins-is : workBegins k w h limit f bytes out counted lost work ≡ eqb e 0
   unfolding workBegins
@@ -81,8 +79,7 @@ module _ (k w h limit : ℕ) (f bytes out counted lost work : List ℕ) {e : ℕ
   unfolding writeCutListRefusal writeCutListAnswer
   listed-refused x =
       let z : eqb e 0 ≡ false = ne-eqb e 0 x in
-      let whole : refusal ≡ e =
-      early-first k w h limit (length f) (length out) (length counted) (length lost) (length work) recordShort (λ q. x (is ∙ q)) ∙ sym is in
+      let whole : refusal ≡ e = sym (decided chain is x recordShort) in
       record {
         answer = rw (whole, z);
         written = rw (whole, z);
@@ -96,20 +93,17 @@ module _ (k w h limit : ℕ) (f bytes out counted lost work : List ℕ) {e : ℕ
       }
 
   module _ (z : e ≡ 0) where
-    fits : Fits k w h limit (length f) (length out) (length counted) (length lost) (length work)
-    fits = early-fits k w h limit (length f) (length out) (length counted) (length lost) (length work) (sym is ∙ z)
+    fits : Fits k w h limit f (length out) (length counted) (length lost) (length work)
+    fits = early-fits k w h limit f (length out) (length counted) (length lost) (length work) (sym is ∙ z)
 
     write-is : writeRefusal k w h f bytes work ≡ outRefusal (length (recordOf k w h f)) (length bytes) 0
     unfolding writeRefusal
     write-is =
-        tree-later k w h (length f) (length work) (length (recordOf k w h f)) (length bytes)
-        (record { taken = fits .sizes .taken; space = fits .sizes .space })
+        tree-later (record { taken = fits .sizes .taken; space = fits .sizes .space }) (length (recordOf k w h f)) (length bytes)
 
     whole : refusal ≡ writeRefusal k w h f bytes work
     unfolding writeCutListRefusal
-    whole =
-        early-later k w h limit (length f) (length out) (length counted) (length lost) (length work) recordShort fits
-        ∙ sym write-is
+    whole = passed chain is z recordShort ∙ sym write-is
 
     module _ {bytes₁ w₁ : List ℕ} {r : Written} (d : WrittenRecord k w h f bytes bytes₁ work w₁ r) where
       number-is : r .refusal ≡ writeRefusal k w h f bytes work
@@ -122,7 +116,7 @@ module _ (k w h limit : ℕ) (f bytes out counted lost work : List ℕ) {e : ℕ
       unfolding writeCutListAnswer writeOut writeWork
       listed-short x =
           let is-five : writeRefusal k w h f bytes work ≡ 5 =
-          write-is ∙ five (ltb (length bytes) (length (recordOf k w h f))) (λ u. x (number-is ∙ write-is ∙ u)) in
+          write-is ∙ out-met (length (recordOf k w h f)) (length bytes) (λ u. x (number-is ∙ write-is ∙ u)) in
           let by : refusal ≡ 5 = whole ∙ is-five in
           record {
             answer = rw (by, number-is, is-five);
@@ -156,13 +150,13 @@ module _ (k w h limit : ℕ) (f bytes out counted lost work : List ℕ) {e : ℕ
         space-is = d .space ∙ rw no-refusal
 
         -- the bytes that are passed on are the record
-        passed : take (r .length) bytes₁ ≡ recordOf k w h f
-        passed = rw bytes-are (over-take (recordOf k w h f) bytes (r .length) (sym long))
+        bytes-passed : take (r .length) bytes₁ ≡ recordOf k w h f
+        bytes-passed = rw bytes-are (over-take (recordOf k w h f) bytes (r .length) (sym long))
 
         read-is : {v : List ℕ} → v ≡ workAfter true (w * h) work → readOf (take (r .length) bytes₁) (length v) ≡ plate k w h f
         read-is {v} q =
             let space : 8 * (w * h) ≤ length v = omega (arith, fits .sizes .space, zeroed-length (w * h) work (fits .sizes .space), ap length q) in
-            rw passed (read-there pl (length v) space)
+            rw bytes-passed (read-there pl (length v) space)
 
         pub listed-done : {out₁ counted₁ lost₁ w₂ w₃ : List ℕ} {r₂ : Head} {r₃ : SizeHead}
             → CutRecord (readOf (take (r .length) bytes₁) (length w₁)) limit out out₁ w₁ w₂ r₂
@@ -203,13 +197,9 @@ pub not-refused : {k w h : ℕ} {f : List ℕ} → Plate k w h f → (limit : �
     → writeCutListRefusal k w h limit f bytes out counted lost work ≡ 0
 unfolding writeCutListRefusal
 not-refused {k} {w} {h} {f} pl limit low high bytes out counted lost work a b c d e =
-    let sizes : Filterable k w h limit (length f) (length out) (length work) = record {
-      taken = record { kind = pl .kind; grid = pl .sizes; long = pl .long };
-      limit-low = low;
-      limit-high = high;
-      room = b;
-      space = e;
-    } in
-    early-later k w h limit (length f) (length out) (length counted) (length lost) (length work)
-    (outRefusal (length (recordOf k w h f)) (length bytes) 0) (record { sizes = sizes; counts-fit = c; losses-fit = d })
+    let taken : Taken k w h f = record { kind = pl .kind; grid = pl .sizes; long = pl .long } in
+    let sizes : Filterable k w h limit f (length out) (length work) =
+    record { taken = taken; limit-low = low; limit-high = high; room = b; space = e } in
+    early-later k w h limit f (length out) (length counted) (length lost) (length work) (outRefusal (length (recordOf k w h f)) (length bytes) 0)
+    (record { sizes = sizes; counts-fit = c; losses-fit = d })
     ∙ rw (le-ltb (length bytes) (length (recordOf k w h f)) a)

@@ -1,40 +1,40 @@
 -- What `write_cut_list` answers and leaves. It writes a plate's record, cuts it at a limit and lists its sizes, with the exact bytes passed on: demand 3 at
 -- one limit. k: connectivity, w: width, h: height, f: the plate; bytes, out, counted, lost, work: the lent buffers.
 use mathlib.Core.Path.{_≡_}
-use mathlib.Core.Bool.{Bool, _||_}
+use mathlib.Core.Bool.{Bool}
 use mathlib.Core.List.{List}
-use Prim.Native.Nat.{ℕ, _-_, _*_}
-use lib.Dec.{eqb, ltb}
+use Prim.Native.Nat.{ℕ, _*_}
+use lib.Dec.{eqb}
 use lib.ListN.{length, take}
 use Rattle.meaning.specs.Sets.{pick}
 use Rattle.meaning.specs.Plate.{Plate, connectivityFits, gridFits}
 use Rattle.meaning.specs.Nodes.{nodesOf}
 use Rattle.meaning.specs.Cut.{counts, cut, darkest, losses, total}
 use Rattle.meaning.specs.Record.{recordOf}
-use Rattle.meaning.specs.Answers.{limitRefusal, outAfter, outRefusal, plateRefusal, refuse, workAfter, workRefusal}
+use Rattle.meaning.specs.Answers.{limitRefusal, outAfter, outRefusal, plateRefusal, tablesRefusal, workAfter, workRefusal}
 use Rattle.demands.specs.Claims.{IsCut, IsSizeList}
 use Rattle.record_write_cut_list.specs.declared.CutListed.{CutListed}
 
--- the conditions ahead of any work, by lengths: 1, 2, 3, 4, then 5 when the output has fewer places than the pixels or either table fewer than pixels - 1,
--- then 6; `later` where none is met
-unfoldable pub earlyRefusal : (k w h limit plate out counted lost work later : ℕ) → ℕ
+-- the conditions ahead of any work: 1, 2, 3, 4, then 5 when the output has fewer places than the pixels or either table fewer than pixels - 1, then 6;
+-- `later` where none is met. out, counted, lost, work: lengths
+unfoldable pub earlyRefusal : (k w h limit : ℕ) (f : List ℕ) (out counted lost work later : ℕ) → ℕ
 unfolding connectivityFits gridFits
-earlyRefusal k w h limit plate out counted lost work later =
-    let short = ltb out (w * h) || (ltb counted (w * h - 1) || ltb lost (w * h - 1)) in
-    plateRefusal k w h plate (limitRefusal w h limit (refuse short 5 (workRefusal w h work later)))
+earlyRefusal k w h limit f out counted lost work later =
+    let n = w * h in
+    plateRefusal k w h f (limitRefusal n limit (outRefusal n out (tablesRefusal n counted lost (workRefusal n work later))))
 
 module _ (k w h limit : ℕ) (f bytes out counted lost work : List ℕ) where
   -- the same, and then 5 when the record needs more bytes than were lent
   unfoldable pub writeCutListRefusal : ℕ
   unfolding earlyRefusal recordOf
   writeCutListRefusal =
-      earlyRefusal k w h limit (length f) (length out) (length counted) (length lost) (length work)
+      earlyRefusal k w h limit f (length out) (length counted) (length lost) (length work)
       (outRefusal (length (recordOf k w h f)) (length bytes) 0)
 
   -- the work begins where no condition ahead of it is met
   unfoldable pub workBegins : Bool
   unfolding earlyRefusal
-  workBegins = eqb (earlyRefusal k w h limit (length f) (length out) (length counted) (length lost) (length work) 0) 0
+  workBegins = eqb (earlyRefusal k w h limit f (length out) (length counted) (length lost) (length work) 0) 0
 
   unfoldable pub writeCutListAnswer : CutListed
   unfolding writeCutListRefusal nodesOf darkest

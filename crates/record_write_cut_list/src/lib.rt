@@ -24,36 +24,34 @@ fn refused(number: u32) -> CutListed
     }
 }
 
-// The refusal ahead of any work, by the sizes of all but the record: those of a plate, a limit and an output, with 5 for a short table ahead of 6; else 0.
+// The refusal ahead of any work: those of a plate, a limit and an output, then 5 for a short table, then 6; else 0.
 fn early_refusal(
     connectivity: u32,
     width: u32,
     height: u32,
     limit: u32,
-    plate: usize,
+    image: &[u8],
     out: usize,
     counts: usize,
     losses: usize,
     work: usize,
 ) -> u32
-    ensures { λ r. ⌜ r ≡ earlyRefusal connectivity width height limit plate out counts losses work 0 ⌝ }
+    ensures { λ r. ⌜ r ≡ earlyRefusal connectivity width height limit (now (image .entry)) out counts losses work 0 ⌝ }
 {
-    let refusal = plate_refusals::filter_refusal(
-        connectivity,
-        width,
-        height,
-        limit,
-        plate,
-        out,
-        work,
-    );
-    if refusal != 0 && refusal != 6 {
-        return refusal;
+    let plate = plate_refusals::plate_refusal(connectivity, width, height, image);
+    if plate != 0 {
+        return plate;
     }
-    if record::tables_short(plate, counts, losses) {
-        return 5;
+    let n = image.len();
+    let cut = plate_refusals::cut_refusal(limit, n, out);
+    if cut != 0 {
+        return cut;
     }
-    refusal
+    let tables = plate_refusals::tables_refusal(n, counts, losses);
+    if tables != 0 {
+        return tables;
+    }
+    plate_refusals::work_refusal(n, work)
 }
 
 // Writes the record of a plate, cuts it at a limit, and lists its sizes. A record that needs more bytes than were lent is refused by 5 after the work.
@@ -76,7 +74,7 @@ pub fn write_cut_list(
         width,
         height,
         limit,
-        image.len(),
+        image,
         out.len(),
         counts.len(),
         losses.len(),

@@ -55,17 +55,14 @@ returns-4 : tie.Need-returns-4
 unfolding rasterRefusal
 returns-4 c = let d = c .before in rw (fits (d .before .before), white (d .before), enough d, lt-ltb _ _ (c .if4 .taken))
 
+out-refusal-requires : tie.Need-out-refusal-requires
+out-refusal-requires c κs = tt
+
 returns-5 : tie.Need-returns-5
 unfolding rasterRefusal
 returns-5 c =
     let d = c .before in
-    rw (fits (d .before .before .before), white (d .before .before), enough (d .before), all d, lt-ltb _ _ (c .if5 .taken))
-
-returns-6 : tie.Need-returns-6
-unfolding rasterRefusal
-returns-6 c =
-    let d = c .before in
-    rw (fits (d .before .before .before), white (d .before .before), enough (d .before), all d, le-ltb _ _ (c .if5 .left))
+    rw (fits (d .before .before .before), white (d .before .before), enough (d .before), all d) (c .out-refusal .ensures)
 
 pub raster-refusal-spec : {M : Type 1} → statement M
 raster-refusal-spec =
@@ -78,5 +75,5 @@ raster-refusal-spec =
     cast-pixels
     returns-3
     returns-4
-    returns-5
-    returns-6)
+    out-refusal-requires
+    returns-5)

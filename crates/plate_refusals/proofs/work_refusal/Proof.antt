@@ -1,7 +1,6 @@
 -- `plate_refusals::work_refusal` meets its contract: an eighth of the entries is held against the pixels.
 use Prim.Native.Nat.{_*_}
 use native.Mathlib.Omega.{arith}
-use borrow.Author.Needs.{needs}
 use borrow.Author.Tests.{lt-ltb, le-ltb}
 use Rattle.plate_refusals.proofs.work_refusal.Statement.{statement}
 use Rattle.plate_refusals.proofs.work_refusal.Tie as tie

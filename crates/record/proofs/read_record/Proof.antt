@@ -7,7 +7,7 @@ use denote.Ref.{now}
 use lib.ListN.{length}
 use Rattle.record_parse.specs.Parse.{readOf}
 use Rattle.record_tree.proofs.Finding.{TreeFound, tree-found, found-clearable}
-use Rattle.record.proofs.Refused.{Stopped, stopped, read-stopped, read-short}
+use Rattle.record.proofs.Refused.{Stopped, stopped, read-stopped, read-refused}
 use Rattle.record.proofs.Done.{tree-few, tree-room, read-greys, read-done}
 
 -- ---- what stands at each place
@@ -64,8 +64,11 @@ mul-n c = omega (arith, tree-few (there c))
 cast-n : tie.Need-cast-n
 cast-n c = omega (arith, tree-few (there c))
 
+out-refusal-requires : tie.Need-out-refusal-requires
+out-refusal-requires c κs = search needs
+
 clear-requires : tie.Need-clear-requires
-clear-requires c κs = tree-room (there (c .before .before))
+clear-requires c κs = tree-room (there (c .before .before .before))
 
 refused-head-requires-2 : tie.Need-refused-head-requires-2
 refused-head-requires-2 c κs = search needs
@@ -77,14 +80,16 @@ returns-2 : tie.Need-returns-2
 returns-2 c =
     let d = c .before .before .before in
     let e = d .before .before in
-    let t = there (e .before) in
-    rw (c .refused-head2 .ensures) (read-short (t .is) (t .frame) (e .if1 .taken) (d .clear .ensures))
+    let t = there (e .before .before) in
+    rw (c .refused-head2 .ensures) (read-refused (t .is) (t .frame) (e .before .out-refusal .ensures) (e .if1 .taken) (d .clear .ensures))
 
 write-greys-requires : tie.Need-write-greys-requires
-write-greys-requires c κs = read-greys (there (c .before .before .before)) (c .before .before .if1 .left)
+write-greys-requires c κs =
+    let e = c .before .before in
+    read-greys (there (e .before .before)) (e .before .out-refusal .ensures) (e .if1 .left)
 
 clear-requires-2 : tie.Need-clear-requires-2
-clear-requires-2 c κs = tree-room (there (fits (c .before .before .before) .before))
+clear-requires-2 c κs = tree-room (there (fits (c .before .before .before) .before .before))
 
 same-length-3 : tie.Need-same-length-3
 same-length-3 c = search needs
@@ -96,7 +101,7 @@ returns-3 : tie.Need-returns-3
 returns-3 c =
     let d = c .before .before in
     let e = fits (written d) in
-    read-done (there (e .before)) (e .if1 .left) (written d .write-greys .ensures) (d .clear2 .ensures)
+    read-done (there (e .before .before)) (e .before .out-refusal .ensures) (e .if1 .left) (written d .write-greys .ensures) (d .clear2 .ensures)
 
 pub read-record-spec : {M : Type 1} → statement M
 read-record-spec =
@@ -110,6 +115,7 @@ read-record-spec =
     returns
     mul-n
     cast-n
+    out-refusal-requires
     clear-requires
     refused-head-requires-2
     same-length-2

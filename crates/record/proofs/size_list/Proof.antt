@@ -2,16 +2,12 @@
 use borrow.Author.Needs.{needs}
 use Rattle.record.proofs.size_list.Statement.{statement}
 use Rattle.record.proofs.size_list.Tie as tie
-use mathlib.Core.Path.{_≡_, sym, _∙_}
-use mathlib.Core.Bool.{false, _||_}
-use Prim.Native.Nat.{_-_, _*_}
-use lib.Dec.{ltb}
 use native.Mathlib.Omega.{arith}
 use denote.Ref.{now}
 use lib.ListN.{length}
 use Rattle.record_parse.specs.Parse.{readOf}
 use Rattle.record_tree.proofs.Finding.{TreeFound, tree-found, found-clearable}
-use Rattle.record.proofs.Refused.{Stopped, stopped, sizes-stopped, sizes-short}
+use Rattle.record.proofs.Refused.{Stopped, stopped, sizes-stopped, sizes-refused}
 use Rattle.record.proofs.Done.{tree-few, tree-some, tree-room, tree-stands, tree-nodes-few, sizes-fit, sizes-done}
 
 -- ---- what stands at each place
@@ -39,12 +35,6 @@ fits c = c .before .before .before .before
 
 abbrev listed : tie.After-darkest-of → tie.After-list-sizes
 listed c = c .before .before .before .before .before .before
-
-long-enough : (c : tie.Else1) →
-    let s = start (c .before .before .before .before .before .before .before) .args in
-    let g = c .before .before .before .f .given .0 in
-    (ltb (length (now (s .counts))) (g .0 * g .1 .0 - 1) || ltb (length (now (s .losses))) (g .0 * g .1 .0 - 1)) ≡ false
-long-enough c = sym (c .before .tables-short .ensures) ∙ c .if1 .left
 
 read-tree-requires : tie.Need-read-tree-requires
 read-tree-requires c κs = search needs
@@ -75,8 +65,8 @@ mul-n c = omega (arith, tree-few (there c))
 cast-n : tie.Need-cast-n
 cast-n c = omega (arith, tree-few (there c))
 
-tables-short-requires : tie.Need-tables-short-requires
-tables-short-requires c κs = tt
+tables-refusal-requires : tie.Need-tables-refusal-requires
+tables-refusal-requires c κs = search needs
 
 clear-requires : tie.Need-clear-requires
 clear-requires c κs = tree-room (there (c .before .before .before))
@@ -92,13 +82,13 @@ returns-2 c =
     let d = c .before .before .before in
     let e = d .before .before in
     let t = there (e .before .before) in
-    rw (c .refused-sizes2 .ensures) (sizes-short (t .is) (t .frame) (sym (e .before .tables-short .ensures) ∙ e .if1 .taken) (d .clear .ensures))
+    rw (c .refused-sizes2 .ensures) (sizes-refused (t .is) (t .frame) (e .before .tables-refusal .ensures) (e .if1 .taken) (d .clear .ensures))
 
 list-sizes-requires : tie.Need-list-sizes-requires
 list-sizes-requires c κs =
     let e = c .before .before .before in
     let t = there (e .before .before) in
-    (tree-stands t, sizes-fit t (long-enough e))
+    (tree-stands t, sizes-fit t (e .before .tables-refusal .ensures) (e .if1 .left))
 
 darkest-of-requires : tie.Need-darkest-of-requires
 darkest-of-requires c κs =
@@ -108,8 +98,8 @@ darkest-of-requires c κs =
 clear-requires-2 : tie.Need-clear-requires-2
 clear-requires-2 c κs = tree-room (there (fits (listed (c .before)) .before .before))
 
-cast-t17 : tie.Need-cast-t17
-cast-t17 c = omega (arith, tree-nodes-few (there (fits (listed (c .before .before .before .before)) .before .before)))
+cast-t18 : tie.Need-cast-t18
+cast-t18 c = omega (arith, tree-nodes-few (there (fits (listed (c .before .before .before .before)) .before .before)))
 
 same-length-3 : tie.Need-same-length-3
 same-length-3 c = search needs
@@ -125,7 +115,8 @@ returns-3 c =
     let d = c .before .before in
     let k = d .before .before in
     let e = fits (listed k) in
-    sizes-done (there (e .before .before)) (long-enough e) (listed k .list-sizes .ensures) (k .darkest-of .ensures) (d .clear2 .ensures)
+    sizes-done (there (e .before .before)) (e .before .tables-refusal .ensures) (e .if1 .left) (listed k .list-sizes .ensures) (k .darkest-of .ensures)
+    (d .clear2 .ensures)
 
 pub size-list-spec : {M : Type 1} → statement M
 size-list-spec =
@@ -139,7 +130,7 @@ size-list-spec =
     returns
     mul-n
     cast-n
-    tables-short-requires
+    tables-refusal-requires
     clear-requires
     refused-sizes-requires-2
     same-length-2
@@ -147,7 +138,7 @@ size-list-spec =
     list-sizes-requires
     darkest-of-requires
     clear-requires-2
-    cast-t17
+    cast-t18
     same-length-3
     same-length-4
     same-length-5

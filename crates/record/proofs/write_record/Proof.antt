@@ -6,7 +6,7 @@ use mathlib.Core.Path.{sym, _∙_}
 use denote.Ref.{now}
 use lib.ListN.{length}
 use native.Mathlib.Omega.{arith}
-use Rattle.plate_refusals.proofs.Refusals.{Listable, tree-none}
+use Rattle.plate_refusals.proofs.Refusals.{Listable, out-none, tree-none}
 use Rattle.record.proofs.Wrote.{TreeMade, wrote-refused, wrote-ready, wrote-here, wrote-short, wrote-done}
 
 -- ---- what stands at each place
@@ -15,11 +15,11 @@ start c = c .before .before .before .before
 
 -- nothing is refused ahead of the work
 listable : (c : tie.Else1) → let s = start (c .before) .args in
-    Listable (s .connectivity) (s .width) (s .height) (length (now (s .image))) (length (now (s .work)))
+    Listable (s .connectivity) (s .width) (s .height) (now (s .image)) (length (now (s .work)))
 listable c =
     let s = start (c .before) .args in
-    tree-none (s .connectivity) (s .width) (s .height) (length (now (s .image))) (length (now (s .work)))
-    (sym (c .before .tree-refusal .ensures) ∙ c .if1 .left)
+    tree-none (s .connectivity) (s .width) (s .height) (now (s .image)) (length (now (s .work)))
+    (c .before .tree-refusal .ensures) (c .if1 .left)
 
 -- the tree is made
 abbrev begun : tie.After-plate-tree → tie.Else1
@@ -52,6 +52,9 @@ plate-tree-requires c κs = wrote-ready (listable (c .before))
 measure-requires : tie.Need-measure-requires
 measure-requires c κs = wrote-here (grown (c .before .before .before))
 
+out-refusal-requires : tie.Need-out-refusal-requires
+out-refusal-requires c κs = search needs
+
 clear-requires : tie.Need-clear-requires
 clear-requires c κs = search needs
 
@@ -65,13 +68,17 @@ returns-2 : tie.Need-returns-2
 returns-2 c =
     let d = c .before .before .before in
     let t = d .before .before in
-    let m = t .before in
-    rw (c .refused-written2 .ensures) (wrote-short (grown (tree m)) (m .measure .ensures) (d .clear .ensures) (t .if2 .taken))
+    let q = t .before in
+    let m = q .before in
+    rw (c .refused-written2 .ensures) (wrote-short (grown (tree m)) (m .measure .ensures) (d .clear .ensures) (q .out-refusal .ensures) (t .if2 .taken))
 
 write-requires : tie.Need-write-requires
 write-requires c κs =
     let e = c .before .before in
-    (wrote-here (grown (tree (e .before))), omega (arith, e .before .measure .ensures, e .if2 .left))
+    let m = e .before .before in (
+      wrote-here (grown (tree m)),
+      omega (arith, m .measure .ensures, out-none (m .measure .result) _ 0 (sym (e .before .out-refusal .ensures) ∙ e .if2 .left) .0),
+    )
 
 clear-requires-2 : tie.Need-clear-requires-2
 clear-requires-2 c κs = search needs
@@ -87,8 +94,8 @@ returns-3 c =
     let d = c .before .before in
     let o = d .before .before .before .before in
     let e = o .before .before .before in
-    let m = e .before in
-    wrote-done (grown (tree m)) (m .measure .ensures) (d .clear2 .ensures) (e .if2 .left) (o .write .ensures)
+    let m = e .before .before in
+    wrote-done (grown (tree m)) (m .measure .ensures) (d .clear2 .ensures) (e .before .out-refusal .ensures) (e .if2 .left) (o .write .ensures)
 
 pub write-record-spec : {M : Type 1} → statement M
 write-record-spec =
@@ -99,6 +106,7 @@ write-record-spec =
     returns
     plate-tree-requires
     measure-requires
+    out-refusal-requires
     clear-requires
     refused-written-requires-2
     same-length

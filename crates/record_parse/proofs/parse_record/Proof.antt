@@ -10,6 +10,7 @@ use borrow.Author.Tests.{not-true, not-false}
 use denote.Ref.{now}
 use lib.ListN.{length}
 use Rattle.meaning.specs.Plate.{connectivityFits}
+use Rattle.plate_refusals.proofs.Refusals.{work-none}
 use Rattle.work_columns.specs.Columns.{Room}
 use Rattle.record_parse.specs.Parse.{Parsed, parse}
 use Rattle.record_parse.proofs.Fields.{took, stopped}
@@ -102,8 +103,10 @@ count4 c =
     (took (bytes (start4 c)) (at3 (told3 c)) 1 (w4 c * h4 c) (c .before .before .before .read-field4 .ensures) (c .before .f4 .given .1))
 
 -- past the test of 6
-room4 : (c : tie.Else3) → Room (now (start4 (c .before) .args .work)) (w4 (c .before) * h4 (c .before))
-room4 c = record { small = count4 (c .before) .pixels; room = c .if3 .left }
+room4 : (c : tie.Else3) → let a = c .before .before in Room (now (start4 a .args .work)) (w4 a * h4 a)
+room4 c =
+    let a = c .before .before in
+    record { small = count4 a .pixels; room = work-none (w4 a * h4 a) (space (start4 a)) 0 (sym (c .before .work-refusal .ensures) ∙ c .if3 .left) .0 }
 
 read-field-requires : tie.Need-read-field-requires
 read-field-requires c κs = tt
@@ -200,20 +203,20 @@ returns-6 c =
 cast-n : tie.Need-cast-n
 cast-n c = search needs
 
-mul-if3 : tie.Need-mul-if3
-mul-if3 c = search needs
+work-refusal-requires : tie.Need-work-refusal-requires
+work-refusal-requires c κs = search needs
 
 returns-7 : tie.Need-returns-7
 returns-7 c =
-    let a = c .before in
-    early-answer (spelt (start4 a)) (now (start4 a .args .work)) (too-short (count4 a) (c .if3 .taken))
+    let a = c .before .before in
+    early-answer (spelt (start4 a)) (now (start4 a .args .work)) (too-short (count4 a) (c .before .work-refusal .ensures) (c .if3 .taken))
 
 cast-read-tree-fields : tie.Need-cast-read-tree-fields
 cast-read-tree-fields c = search needs
 
 read-tree-fields-requires : tie.Need-read-tree-fields-requires
 read-tree-fields-requires c κs =
-    let a = c .before .before in
+    let a = c .before .before .before in
     (room4 (c .before), (count4 a .some, count4 a .most))
 
 enum-known-tree : tie.Need-enum-known-tree
@@ -226,8 +229,8 @@ returns-8 : tie.Need-returns-8
 returns-8 c =
     let t = c .before .before .before .before .before in
     let e = t .before .before in
-    let a = e .before in
-    late-answer (spelt (start4 a)) (k4 a) (w4 a) (h4 a) (room4 e) (t .read-tree-fields .ensures) (begun (count4 a) (e .if3 .left)) (c .before .tree .given .1)
+    let a = e .before .before in
+    late-answer (spelt (start4 a)) (k4 a) (w4 a) (h4 a) (room4 e) (t .read-tree-fields .ensures) (begun (count4 a) (room4 e .room)) (c .before .tree .given .1)
 
 enum-told-5 : tie.Need-enum-told-5
 enum-told-5 c = search needs
@@ -239,8 +242,8 @@ returns-9 : tie.Need-returns-9
 returns-9 c =
     let t = c .before .before .before .before in
     let e = t .before .before in
-    let a = e .before in
-    plate-answer (spelt (start4 a)) (k4 a) (w4 a) (h4 a) (room4 e) (t .read-tree-fields .ensures) (begun (count4 a) (e .if3 .left)) (c .enum-told5 .given .1)
+    let a = e .before .before in
+    plate-answer (spelt (start4 a)) (k4 a) (w4 a) (h4 a) (room4 e) (t .read-tree-fields .ensures) (begun (count4 a) (room4 e .room)) (c .enum-told5 .given .1)
 
 pub parse-record-spec : {M : Type 1} → statement M
 parse-record-spec =
@@ -271,7 +274,7 @@ parse-record-spec =
     refusal-requires-4
     returns-6
     cast-n
-    mul-if3
+    work-refusal-requires
     returns-7
     cast-read-tree-fields
     read-tree-fields-requires

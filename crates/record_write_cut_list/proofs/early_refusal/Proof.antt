@@ -2,38 +2,52 @@
 use borrow.Author.Needs.{needs}
 use Rattle.record_write_cut_list.proofs.early_refusal.Statement.{statement}
 use Rattle.record_write_cut_list.proofs.early_refusal.Tie as tie
-use mathlib.Core.Logic.{inl, inr}
-use borrow.Author.Tests.{eqb-false, eqb-true, not-false, not-true}
-use Rattle.record_write_cut_list.proofs.Conditions.{early-long, early-short, early-stays}
+use Rattle.record_write_cut_list.proofs.Conditions.{by-cut, by-plate, by-space, by-tables}
 
-filter-refusal-requires : tie.Need-filter-refusal-requires
-filter-refusal-requires c κs = search needs
+plate-refusal-requires : tie.Need-plate-refusal-requires
+plate-refusal-requires c κs = search needs
 
 returns : tie.Need-returns
-returns c =
-    let s = c .before .before .before .args in
-    early-stays (s .connectivity) (s .width) (s .height) (s .limit) (s .plate) (s .out) (s .counts) (s .losses) (s .work)
-    (c .before .before .filter-refusal .ensures) (c .before .if1 .taken) (eqb-false _ 6 (not-true _ (c .if2 .taken)))
+returns c = by-plate _ _ _ _ _ _ _ _ _ (c .before .plate-refusal .ensures) (c .if1 .taken)
 
-tables-short-requires : tie.Need-tables-short-requires
-tables-short-requires c κs = search needs
+cut-refusal-requires : tie.Need-cut-refusal-requires
+cut-refusal-requires c κs = search needs
 
 returns-2 : tie.Need-returns-2
 returns-2 c =
-    let s = c .before .before .before .before .args in
-    early-short (s .connectivity) (s .width) (s .height) (s .limit) (s .plate) (s .out) (s .counts) (s .losses) (s .work)
-    (c .before .before .before .filter-refusal .ensures)
-    (elim (c .before .before .if1 .came) [ inl x ↦ inr (eqb-true _ 6 (not-false _ (x .1 .left))) | inr x ↦ inl (x .left) ])
-    (c .before .tables-short .ensures) (c .if3 .taken)
+    let e = c .before .before in
+    by-cut _ _ _ _ _ _ _ _ _ (e .before .plate-refusal .ensures) (e .if1 .left) (c .before .cut-refusal .ensures) (c .if2 .taken)
+
+tables-refusal-requires : tie.Need-tables-refusal-requires
+tables-refusal-requires c κs = search needs
 
 returns-3 : tie.Need-returns-3
 returns-3 c =
-    let s = c .before .before .before .before .args in
-    early-long (s .connectivity) (s .width) (s .height) (s .limit) (s .plate) (s .out) (s .counts) (s .losses) (s .work)
-    (c .before .before .before .filter-refusal .ensures)
-    (elim (c .before .before .if1 .came) [ inl x ↦ inr (eqb-true _ 6 (not-false _ (x .1 .left))) | inr x ↦ inl (x .left) ])
-    (c .before .tables-short .ensures) (c .if3 .left)
+    let d = c .before .before in
+    let e = d .before .before in
+    by-tables _ _ _ _ _ _ _ _ _ (e .before .plate-refusal .ensures) (e .if1 .left) (d .before .cut-refusal .ensures) (d .if2 .left)
+    (c .before .tables-refusal .ensures) (c .if3 .taken)
+
+work-refusal-requires : tie.Need-work-refusal-requires
+work-refusal-requires c κs = search needs
+
+returns-4 : tie.Need-returns-4
+returns-4 c =
+    let t = c .before in
+    let d = t .before .before in
+    let e = d .before .before in
+    by-space _ _ _ _ _ _ _ _ _ (e .before .plate-refusal .ensures) (e .if1 .left) (d .before .cut-refusal .ensures) (d .if2 .left)
+    (t .before .tables-refusal .ensures) (t .if3 .left) (c .work-refusal .ensures)
 
 pub early-refusal-spec : {M : Type 1} → statement M
 early-refusal-spec =
-    tie.close (tie.spec filter-refusal-requires returns tables-short-requires returns-2 returns-3)
+    tie.close
+    (tie.spec
+    plate-refusal-requires
+    returns
+    cut-refusal-requires
+    returns-2
+    tables-refusal-requires
+    returns-3
+    work-refusal-requires
+    returns-4)
