@@ -1,43 +1,34 @@
 -- The operations that read a record, where nothing is refused: the tree of its plate stands in the work space.
 use mathlib.Core.Path.{_≡_, sym, ap, _∙_}
+use mathlib.Core.Bool.{false}
 use mathlib.Core.List.{List, _++_}
 use Prim.Native.Nat.{ℕ, _*_, _≤_}
 use native.Mathlib.Omega.{arith}
 use lib.ListN.{length, drop, replicate}
 use Rattle.meaning.specs.Answers.{limitRefusal, outRefusal, over, tablesRefusal}
-use Rattle.meaning.specs.Cut.{darkest}
-use Rattle.meaning.specs.Nodes.{anchors, nodesOf}
-use Rattle.meaning.specs.Plate.{greatestGrey, touch}
+use Rattle.meaning.specs.Cut.{cut, darkest}
 use Rattle.work_columns.specs.Columns.{Room}
+use Rattle.work_columns.specs.Layout.{greysIn, shapeOf}
+use Rattle.work_columns.specs.declared.Shape.{Shape}
 use Rattle.work_columns.proofs.Columns.{cleared, frame-trans}
 use Rattle.theory_connectivity.proofs.Sizes.{grid-sizes}
+use Rattle.maxtree_columns.specs.Tree.{TreeStands}
+use Rattle.maxtree_columns.proofs.Tree.{few-nodes}
+use Rattle.maxtree_values.specs.Values.{Delivered, ValuesAre, Writable}
 use Rattle.plate_refusals.proofs.Refusals.{limit-none, out-none, tables-none}
 use Rattle.record_parse.specs.Parse.{Parsed}
-use Rattle.record_parse.specs.Steps.{greysIn}
-use Rattle.record_cut.specs.Standing.{CutWritten, OfPlate, SizesWritten, Stands, TablesFit}
+use Rattle.record_sizes.specs.Sizes.{SizesWritten, TablesFit}
 use Rattle.record_tree.specs.Found.{GreysStand}
 use Rattle.record_tree.proofs.Finding.{TreeFound}
 use Rattle.record.specs.Reading.{CutRecord, ListedSizes, ReadRecord}
 
 module _ {P : Parsed} {wd ht k count : ℕ} {work w₁ : List ℕ} (t : TreeFound P wd ht k work w₁ count) where
-  abbrev f : List ℕ
-  f = greysIn (wd * ht) w₁
-
-  long : length f ≡ wd * ht
-  long = t .standing .plate .long
-
   -- the pixels
-  pub tree-some : 1 ≤ wd * ht
-  tree-some = grid-sizes wd ht (t .standing .plate .sizes) .some-pixels
-
   pub tree-few : wd * ht ≤ 16777216
-  tree-few = grid-sizes wd ht (t .standing .plate .sizes) .few-pixels
+  tree-few = grid-sizes wd ht (t .tree .plate .sizes) .few-pixels
 
   pub tree-room : Room w₁ (wd * ht)
-  tree-room = rw (← long) (t .standing .room)
-
-  pub tree-stands : Stands (wd * ht) w₁ count
-  tree-stands = record { k = k; wd = wd; ht = ht; f = f; standing = t .standing; pixels = long }
+  tree-room = t .tree .room
 
   -- ---- reading. r, here and below: what was found to be the refusal by the operation's own conditions
 
@@ -45,7 +36,7 @@ module _ {P : Parsed} {wd ht k count : ℕ} {work w₁ : List ℕ} (t : TreeFoun
     pub read-greys : GreysStand (wd * ht) w₁ out
     read-greys = record {
       room = tree-room;
-      greys = rw (← long) (t .standing .facts .tree .greys);
+      greys = λ p l. omega (arith, ap (λ (h : ℕ → ℕ). h p) (t .tree .greys), t .tree .plate .greys p (omega (arith, t .tree .pixels)));
       places = out-none (wd * ht) (length out) 0 (sym e ∙ z) .0;
     }
 
@@ -56,53 +47,66 @@ module _ {P : Parsed} {wd ht k count : ℕ} {work w₁ : List ℕ} (t : TreeFoun
         let y : outRefusal (wd * ht) (length out) 0 ≡ 0 = sym e ∙ z in
         rw (t .is) (record { answer = rw y; output = rw y d; space = cleared (t .frame) c })
 
-  -- ---- cutting
+  -- ---- with the shape g that was made
 
-  module _ {limit r : ℕ} (out : List ℕ) (e : r ≡ limitRefusal (wd * ht) limit (outRefusal (wd * ht) (length out) 0)) (z : r ≡ 0) where
-    pub cut-fits : (limit ≤ wd * ht) × (wd * ht ≤ length out)
-    cut-fits =
-        let (limited, e₁) = limit-none (wd * ht) limit (outRefusal (wd * ht) (length out) 0) (sym e ∙ z) in
-        (limited .1, out-none (wd * ht) (length out) 0 e₁ .0)
+  module _ {g : Shape} (shape : g ≡ shapeOf (wd * ht) wd ht k) where
+    pub found-stands : TreeStands g w₁ count
+    found-stands = rw shape (t .tree)
 
-    pub cut-done : {out′ w₂ w₃ : List ℕ} → CutWritten limit (wd * ht) count w₁ w₂ out out′
-        → w₃ ≡ replicate (8 * (wd * ht)) 0 ++ drop (8 * (wd * ht)) w₂
-        → CutRecord P limit out out′ work w₃ (record { refusal = 0; width = wd; height = ht; connectivity = k })
-    cut-done d c =
-        let y : limitRefusal (wd * ht) limit (outRefusal (wd * ht) (length out) 0) ≡ 0 = sym e ∙ z in
-        rw (t .is) (record {
-          answer = rw y;
-          output = rw y (d .written k wd ht f (t .standing) long);
-          space = cleared (frame-trans (t .frame) (d .frame)) c;
-        })
+    pixels-are : g .pixels ≡ wd * ht
+    pixels-are = ap (λ (s : Shape). s .pixels) shape
 
-  -- ---- the size list
+    -- ---- cutting
 
-  pub tree-nodes : count ≡ length (nodesOf k wd f)
-  unfolding nodesOf
-  tree-nodes =
-      t .standing .facts .tree .nodes
-      ∙ ap (λ (g : ℕ → ℕ). length (anchors greatestGrey (length f) (touch k wd) g)) (t .standing .same)
+    module _ (limit : ℕ) {r : ℕ} (out : List ℕ) (e : r ≡ limitRefusal (wd * ht) limit (outRefusal (wd * ht) (length out) 0)) (z : r ≡ 0) where
+      cut-limit : (limit ≤ wd * ht) × (wd * ht ≤ length out)
+      cut-limit =
+          let (limited, e₁) = limit-none (wd * ht) limit (outRefusal (wd * ht) (length out) 0) (sym e ∙ z) in
+          (limited .1, out-none (wd * ht) (length out) 0 e₁ .0)
 
-  -- the number of nodes fits
-  pub tree-nodes-few : count ≤ 16777216
-  tree-nodes-few = omega (arith, tree-few, t .standing .facts .few-nodes, long)
+      pub cut-fits : limit ≤ g .pixels
+      cut-fits = omega (arith, cut-limit, pixels-are)
 
-  module _ {r : ℕ} {counted lost : List ℕ} (e : r ≡ tablesRefusal (wd * ht) (length counted) (length lost) 0) (z : r ≡ 0) where
-    pub sizes-fit : TablesFit (wd * ht) counted lost
-    sizes-fit =
-        let (fit, _) = tables-none (wd * ht) (length counted) (length lost) 0 (sym e ∙ z) in record { counts-fit = fit .0; losses-fit = fit .1 }
+      module _ {w₂ : List ℕ} (v : ValuesAre (g .pixels) (cut (g .connectivity) (g .width) (g .height) limit (greysIn (g .pixels) w₁)) w₁ w₂) where
+        values : ValuesAre (wd * ht) (cut k wd ht limit (greysIn (wd * ht) w₁)) w₁ w₂
+        values = rw shape at v
 
-    pub sizes-done : {counted′ lost′ w₂ : List ℕ} {d : ℕ} → SizesWritten (wd * ht) count w₁ counted counted′ lost lost′
-        → ((m : ℕ) → OfPlate (wd * ht) w₁ m (λ k wd ht f. d ≡ darkest f)) → w₂ ≡ replicate (8 * (wd * ht)) 0 ++ drop (8 * (wd * ht)) w₁
-        → ListedSizes P counted counted′ lost lost′ work w₂
-        (record { refusal = 0; width = wd; height = ht; connectivity = k; nodes = count; darkest = d })
-    sizes-done s d c =
-        let y : tablesRefusal (wd * ht) (length counted) (length lost) 0 ≡ 0 = sym e ∙ z in
-        let nodes : count ≡ length (nodesOf k wd f) = tree-nodes in
-        let dark = d count k wd ht f (t .standing) long in
-        rw (t .is) (record {
-          answer = rw (y, nodes, dark);
-          count-table = rw y (s .counted-is k wd ht f (t .standing) long);
-          loss-table = rw y (s .lost-is k wd ht f (t .standing) long);
-          space = cleared (t .frame) c;
-        })
+        pub cut-writable : Writable (wd * ht) w₂ × (wd * ht ≤ length out)
+        cut-writable = (values .writable, cut-limit .1)
+
+        pub cut-done : {out′ w₃ : List ℕ} → Delivered false (wd * ht) w₂ w₃ out out′
+            → CutRecord P limit out out′ work w₃ (record { refusal = 0; width = wd; height = ht; connectivity = k })
+        cut-done d =
+            let y : limitRefusal (wd * ht) limit (outRefusal (wd * ht) (length out) 0) ≡ 0 = sym e ∙ z in
+            rw (t .is) (record {
+              answer = rw y;
+              output = rw (y, ← values .by-pixel) (d .written);
+              space = cleared (frame-trans (t .frame) (values .valued .frame)) (d .cleared);
+            })
+
+    -- ---- the size list
+
+    -- the number of nodes fits
+    pub nodes-few : count ≤ 16777216
+    nodes-few = omega (arith, tree-few, few-nodes (t .tree))
+
+    module _ {r : ℕ} {counted lost : List ℕ} (e : r ≡ tablesRefusal (wd * ht) (length counted) (length lost) 0) (z : r ≡ 0) where
+      pub sizes-fit : TablesFit (g .pixels) counted lost
+      sizes-fit =
+          let (fit, _) = tables-none (wd * ht) (length counted) (length lost) 0 (sym e ∙ z) in
+          rw pixels-are (record { counts-fit = fit .0; losses-fit = fit .1 })
+
+      pub sizes-done : {counted′ lost′ w₂ : List ℕ} {d : ℕ} → SizesWritten g w₁ counted counted′ lost lost′ → d ≡ darkest (greysIn (g .pixels) w₁)
+          → w₂ ≡ replicate (8 * (wd * ht)) 0 ++ drop (8 * (wd * ht)) w₁
+          → ListedSizes P counted counted′ lost lost′ work w₂
+          (record { refusal = 0; width = wd; height = ht; connectivity = k; nodes = count; darkest = d })
+      sizes-done {counted′} {lost′} {d = d} s dark c =
+          let y : tablesRefusal (wd * ht) (length counted) (length lost) 0 ≡ 0 = sym e ∙ z in
+          let s′ : SizesWritten (shapeOf (wd * ht) wd ht k) w₁ counted counted′ lost lost′ = rw shape at s in
+          let dark′ : d ≡ darkest (greysIn (wd * ht) w₁) = rw shape at dark in
+          rw (t .is) (record {
+            answer = rw (y, t .tree .nodes, dark′);
+            count-table = rw y (s′ .counted-is);
+            loss-table = rw y (s′ .lost-is);
+            space = cleared (t .frame) c;
+          })

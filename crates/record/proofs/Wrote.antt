@@ -3,17 +3,19 @@ use mathlib.Core.Path.{_≡_, refl, sym, ap, _∙_}
 use mathlib.Core.Bool.{true, false}
 use mathlib.Core.List.{List, _++_}
 use Prim.Native.Nat.{ℕ, _*_}
+use native.Mathlib.Omega.{arith}
 use lib.Dec.{eqb}
 use lib.ListN.{length, drop, replicate}
 use borrow.Author.Tests.{ne-eqb}
 use Rattle.meaning.specs.Answers.{outRefusal, over, plateRefusal, workAfter, workRefusal}
 use Rattle.meaning.specs.Record.{recordOf}
 use Rattle.plate_refusals.proofs.Refusals.{Listable, out-met, plate-later, tree-early, tree-first, tree-later}
-use Rattle.plate_greys.specs.Standing.{Standing}
-use Rattle.plate_greys.specs.Tree.{PlateTree, PlateReady}
+use Rattle.work_columns.specs.Columns.{Room}
+use Rattle.work_columns.specs.Layout.{greysIn, shapeOf}
+use Rattle.work_columns.specs.declared.Shape.{Shape}
 use Rattle.work_columns.proofs.Columns.{cleared}
-use Rattle.record_parse.specs.Steps.{greysIn}
-use Rattle.record_fields.proofs.Standing.{standing-here, standing-plate}
+use Rattle.maxtree_columns.proofs.Tree.{tree-plate}
+use Rattle.plate_tree.specs.PlateTree.{PlateReady, PlateTree}
 use Rattle.record.specs.Writing.{WrittenRecord, writeAnswer, writeOut, writeRefusal, writeWork}
 
 -- a refusal by 1, 2, 3 or 6
@@ -26,50 +28,49 @@ wrote-refused k w h f out work {r} e x =
     let is : writeRefusal k w h f out work ≡ r = sym (tree-first k w h f (length work) e x (length (recordOf k w h f)) (length out)) in
     record { answer = rw (is, z); output = rw (is, z); space = rw (is, z, y); accepted = λ none. absurd (x (sym is ∙ none)) }
 
--- the tree can be made
-pub wrote-ready : {k w h : ℕ} {f work : List ℕ} → Listable k w h f (length work) → PlateReady k w h f work
-wrote-ready {k} {w} {h} {f} l = record { taken = plate-later (l .taken) (λ _. 0); room = l .space }
-
--- nothing but 5 is left to refuse, and the tree is made
-pub record TreeMade (k w h : ℕ) (f work w₁ : List ℕ) (count : ℕ) : Type 0 where
-  pub listable : Listable k w h f (length work)
-  pub tree : PlateTree false k w h f work w₁ count
-
-module _ {k w h : ℕ} {f work w₁ : List ℕ} {count : ℕ} (g : TreeMade k w h f work w₁ count) where
-  plate-tree-standing : Standing k w h f w₁ count
-  plate-tree-standing = record { plate = g .tree .plate; room = g .tree .room; same = g .tree .same; facts = g .tree .facts }
-
-  pub wrote-here : Standing k w h (greysIn (length f) w₁) w₁ count
-  wrote-here = standing-here plate-tree-standing (length f) refl
-
-  plain : greysIn (length f) w₁ ≡ f
-  plain = standing-plate plate-tree-standing (length f) refl
+-- nothing but 5 is left to refuse; g: the plate's shape
+module _ {g : Shape} {k w h : ℕ} (f work : List ℕ) (listable : Listable k w h f (length work)) (shape : g ≡ shapeOf (length f) w h k) where
+  -- the tree can be made
+  pub wrote-ready : PlateReady g f work
+  wrote-ready =
+      rw shape (record { taken = plate-later (listable .taken) (λ _. 0); pixels = refl; room = omega (arith, listable .taken .long, listable .space) })
 
   refusal-is : (out : List ℕ) → writeRefusal k w h f out work ≡ outRefusal (length (recordOf k w h f)) (length out) 0
   unfolding writeRefusal
-  refusal-is out = tree-later (g .listable) (length (recordOf k w h f)) (length out)
+  refusal-is out = tree-later listable (length (recordOf k w h f)) (length out)
 
-  module _ {size : ℕ} (m : size ≡ length (recordOf k w h (greysIn (length f) w₁))) {w₂ : List ℕ}
-      (c : w₂ ≡ replicate (8 * length f) 0 ++ drop (8 * length f) w₁) where
-    size-is : size ≡ length (recordOf k w h f)
-    size-is = m ∙ ap (λ (g : List ℕ). length (recordOf k w h g)) plain
+  module _ {w₁ : List ℕ} {count : ℕ} (stood : PlateTree false g f work w₁ count) where
+    p : PlateTree false (shapeOf (length f) w h k) f work w₁ count
+    p = rw shape at stood
 
-    zeroed : w₂ ≡ workAfter true (w * h) work
-    zeroed = rw (← (g .listable .taken .long)) (cleared (g .tree .frame) c)
+    pub wrote-room : Room w₁ (length f)
+    wrote-room = p .tree .room
 
-    -- 5
-    pub wrote-short : {r : ℕ} {out : List ℕ} → r ≡ outRefusal size (length out) 0 → (r ≡ 0 → ⊥)
-        → WrittenRecord k w h f out out work w₂ (record { refusal = r; length = 0 })
-    unfolding writeAnswer writeOut writeWork
-    wrote-short {r} {out} e x =
-        let five : r ≡ 5 = e ∙ out-met size (length out) (λ u. x (e ∙ u)) in
-        let is : writeRefusal k w h f out work ≡ 5 = refusal-is out ∙ rw (← size-is) (sym e ∙ five) in
-        record { answer = rw (is, five); output = rw is; space = rw is zeroed; accepted = λ none. plate-tree-standing .plate }
+    record-is : recordOf (g .connectivity) (g .width) (g .height) (greysIn (g .pixels) w₁) ≡ recordOf k w h f
+    record-is = rw (tree-plate (stood .tree), shape)
 
-    -- the record
-    pub wrote-done : {r : ℕ} {out out′ : List ℕ} → r ≡ outRefusal size (length out) 0 → r ≡ 0 → out′ ≡ over (recordOf k w h (greysIn (length f) w₁)) out
-        → WrittenRecord k w h f out out′ work w₂ (record { refusal = 0; length = size })
-    unfolding writeAnswer writeOut writeWork
-    wrote-done {r} {out} e z d =
-        let is : writeRefusal k w h f out work ≡ 0 = refusal-is out ∙ rw (← size-is) (sym e ∙ z) in
-        record { answer = rw (is, size-is); output = rw is (rw plain at d); space = rw is zeroed; accepted = λ none. plate-tree-standing .plate }
+    module _ {size : ℕ} (m : size ≡ length (recordOf (g .connectivity) (g .width) (g .height) (greysIn (g .pixels) w₁))) where
+      size-is : size ≡ length (recordOf k w h f)
+      size-is = m ∙ ap length record-is
+
+      module _ {w₂ : List ℕ} (c : w₂ ≡ replicate (8 * length f) 0 ++ drop (8 * length f) w₁) where
+        zeroed : w₂ ≡ workAfter true (w * h) work
+        zeroed = rw (← (listable .taken .long)) (cleared (p .frame) c)
+
+        -- 5
+        pub wrote-short : {r : ℕ} {out : List ℕ} → r ≡ outRefusal size (length out) 0 → (r ≡ 0 → ⊥)
+            → WrittenRecord k w h f out out work w₂ (record { refusal = r; length = 0 })
+        unfolding writeAnswer writeOut writeWork
+        wrote-short {r} {out} e x =
+            let five : r ≡ 5 = e ∙ out-met size (length out) (λ u. x (e ∙ u)) in
+            let is : writeRefusal k w h f out work ≡ 5 = refusal-is out ∙ rw (← size-is) (sym e ∙ five) in
+            record { answer = rw (is, five); output = rw is; space = rw is zeroed; accepted = λ none. p .plate }
+
+        -- the record
+        pub wrote-done : {r : ℕ} {out out′ : List ℕ} → r ≡ outRefusal size (length out) 0 → r ≡ 0
+            → out′ ≡ over (recordOf (g .connectivity) (g .width) (g .height) (greysIn (g .pixels) w₁)) out
+            → WrittenRecord k w h f out out′ work w₂ (record { refusal = 0; length = size })
+        unfolding writeAnswer writeOut writeWork
+        wrote-done {r} {out} e z d =
+            let is : writeRefusal k w h f out work ≡ 0 = refusal-is out ∙ rw (← size-is) (sym e ∙ z) in
+            record { answer = rw (is, size-is); output = rw is (rw record-is at d); space = rw is zeroed; accepted = λ none. p .plate }

@@ -76,21 +76,23 @@ pub fn write_record(
     out: &mut [u8],
     work: &mut [u32],
 ) -> Written
-    ensures { λ r. ⌜ WrittenRecord connectivity width height (now (image .entry)) (now (out .entry)) (now (out .exit)) (now (work .entry)) (now (work .exit)) r ⌝ }
+    ensures { λ r. ⌜ WrittenRecord connectivity width height (now (image .entry))
+        (now (out .entry)) (now (out .exit)) (now (work .entry)) (now (work .exit)) r ⌝ }
 {
     let n = image.len();
     let refusal = plate_refusals::tree_refusal(connectivity, width, height, image, work.len());
     if refusal != 0 {
         return refused_written(refusal);
     }
-    let count = plate_tree::plate_tree(image, false, width, height, connectivity, work);
-    let size = record_fields::measure(work, n, width, height, connectivity, count);
+    let g = work_columns::shape_of(n, width, height, connectivity);
+    let count = plate_tree::plate_tree(image, false, g, work);
+    let size = record_fields::measure(work, g, count);
     let short = plate_refusals::out_refusal(size, out.len());
     if short != 0 {
         work_columns::clear(work, n);
         return refused_written(short);
     }
-    record_fields::write(work, n, width, height, connectivity, count, out);
+    record_fields::write(work, g, count, out);
     work_columns::clear(work, n);
     Written {
         refusal: 0,
@@ -100,7 +102,8 @@ pub fn write_record(
 
 // Reads a record: its plate.
 pub fn read_record(bytes: &[u8], out: &mut [u8], work: &mut [u32]) -> Head
-    ensures { λ r. ⌜ ReadRecord (readOf (now (bytes .entry)) (length (now (work .entry)))) (now (out .entry)) (now (out .exit)) (now (work .entry)) (now (work .exit)) r ⌝ }
+    ensures { λ r. ⌜ ReadRecord (readOf (now (bytes .entry)) (length (now (work .entry))))
+        (now (out .entry)) (now (out .exit)) (now (work .entry)) (now (work .exit)) r ⌝ }
 {
     let f = record_tree::read_tree(bytes, work);
     let Found::Tree(width, height, connectivity, _) = f else {
@@ -124,7 +127,8 @@ pub fn read_record(bytes: &[u8], out: &mut [u8], work: &mut [u32]) -> Head
 
 // Cuts a record at a limit.
 pub fn cut_record(bytes: &[u8], limit: u32, out: &mut [u8], work: &mut [u32]) -> Head
-    ensures { λ r. ⌜ CutRecord (readOf (now (bytes .entry)) (length (now (work .entry)))) limit (now (out .entry)) (now (out .exit)) (now (work .entry)) (now (work .exit)) r ⌝ }
+    ensures { λ r. ⌜ CutRecord (readOf (now (bytes .entry)) (length (now (work .entry)))) limit
+        (now (out .entry)) (now (out .exit)) (now (work .entry)) (now (work .exit)) r ⌝ }
 {
     let f = record_tree::read_tree(bytes, work);
     let Found::Tree(width, height, connectivity, count) = f else {
@@ -136,8 +140,9 @@ pub fn cut_record(bytes: &[u8], limit: u32, out: &mut [u8], work: &mut [u32]) ->
         work_columns::clear(work, n);
         return refused_head(refusal);
     }
-    record_cut::cut_plate(work, n, count, limit as usize, out);
-    work_columns::clear(work, n);
+    let g = work_columns::shape_of(n, width, height, connectivity);
+    maxtree_values::cut_values(work, g, count, limit as usize);
+    maxtree_values::deliver(work, n, false, out);
     Head {
         refusal: 0,
         width: width,
@@ -148,7 +153,8 @@ pub fn cut_record(bytes: &[u8], limit: u32, out: &mut [u8], work: &mut [u32]) ->
 
 // Lists the sizes of a record's nodes: by area, their number and the grey lost.
 pub fn size_list(bytes: &[u8], counts: &mut [u32], losses: &mut [u64], work: &mut [u32]) -> SizeHead
-    ensures { λ r. ⌜ ListedSizes (readOf (now (bytes .entry)) (length (now (work .entry)))) (now (counts .entry)) (now (counts .exit)) (now (losses .entry)) (now (losses .exit)) (now (work .entry)) (now (work .exit)) r ⌝ }
+    ensures { λ r. ⌜ ListedSizes (readOf (now (bytes .entry)) (length (now (work .entry))))
+        (now (counts .entry)) (now (counts .exit)) (now (losses .entry)) (now (losses .exit)) (now (work .entry)) (now (work .exit)) r ⌝ }
 {
     let f = record_tree::read_tree(bytes, work);
     let Found::Tree(width, height, connectivity, count) = f else {
@@ -160,8 +166,9 @@ pub fn size_list(bytes: &[u8], counts: &mut [u32], losses: &mut [u64], work: &mu
         work_columns::clear(work, n);
         return refused_sizes(refusal);
     }
-    record_cut::list_sizes(work, n, count, counts, losses);
-    let darkest = record_cut::darkest_of(work, n);
+    let g = work_columns::shape_of(n, width, height, connectivity);
+    record_sizes::list_sizes(work, g, count, counts, losses);
+    let darkest = record_sizes::darkest_of(work, g, count);
     work_columns::clear(work, n);
     SizeHead {
         refusal: 0,

@@ -9,9 +9,8 @@ use denote.Ref.{now}
 use lib.ListN.{length}
 use Rattle.record_parse.specs.Parse.{readOf}
 use Rattle.record_tree.proofs.Finding.{TreeFound, tree-found, found-clearable}
-use Rattle.work_columns.proofs.Columns.{frame-room}
 use Rattle.record.proofs.Refused.{Stopped, stopped, cut-stopped, cut-refused}
-use Rattle.record.proofs.Done.{tree-few, tree-room, tree-stands, cut-fits, cut-done}
+use Rattle.record.proofs.Done.{cut-done, cut-fits, cut-writable, found-stands, tree-few, tree-room}
 
 -- ---- what stands at each place
 abbrev start : tie.After-read-tree → tie.Start
@@ -35,12 +34,12 @@ refused c =
 abbrev lent : tie.After-known-told → List ℕ
 lent c = now (start (c .before .before .before .before .before) .args .out)
 
--- the cut is written
-abbrev cut : tie.After-clear2 → tie.After-cut-plate
-cut c = c .before .before .before .before .before .before
-
-abbrev fits : tie.After-cut-plate → tie.Else1
+-- nothing is refused; the nodes have their values
+abbrev fits : tie.After-cut-values → tie.Else1
 fits c = c .before .before .before
+
+abbrev valued : tie.After-deliver → tie.After-cut-values
+valued c = c .before .before .before .before .before
 
 read-tree-requires : tie.Need-read-tree-requires
 read-tree-requires c κs = search needs
@@ -90,16 +89,24 @@ returns-2 c =
     let t = there (e .before .before) in
     rw (c .refused-head2 .ensures) (cut-refused (t .is) (t .frame) (e .before .cut-refusal .ensures) (e .if1 .taken) (d .clear .ensures))
 
-cut-plate-requires : tie.Need-cut-plate-requires
-cut-plate-requires c κs =
+shape-of-requires : tie.Need-shape-of-requires
+shape-of-requires c κs = search needs
+
+cut-values-requires : tie.Need-cut-values-requires
+cut-values-requires c κs =
     let e = c .before .before in
     let b = e .before .before in
-    (tree-stands (there b), cut-fits (there b) (lent b) (e .before .cut-refusal .ensures) (e .if1 .left))
+    let shape = c .before .shape-of .ensures in
+    let s = start (b .before .before .before .before .before) .args in
+    (found-stands (there b) shape, cut-fits (there b) shape (s .limit) (lent b) (e .before .cut-refusal .ensures) (e .if1 .left))
 
-clear-requires-2 : tie.Need-clear-requires-2
-clear-requires-2 c κs =
-    let d = c .before .before .before .before .before in
-    frame-room (tree-room (there (fits d .before .before))) (d .cut-plate .ensures .frame)
+deliver-requires : tie.Need-deliver-requires
+deliver-requires c κs =
+    let v = c .before .before .before .before in
+    let e = fits v in
+    let b = e .before .before in
+    let s = start (b .before .before .before .before .before) .args in
+    cut-writable (there b) (v .before .before .shape-of .ensures) (s .limit) (lent b) (e .before .cut-refusal .ensures) (e .if1 .left) (v .cut-values .ensures)
 
 same-length-3 : tie.Need-same-length-3
 same-length-3 c = search needs
@@ -109,10 +116,13 @@ same-length-4 c = search needs
 
 returns-3 : tie.Need-returns-3
 returns-3 c =
-    let d = c .before .before in
-    let e = fits (cut d) in
+    let d = c .before .before .before .before in
+    let v = valued d in
+    let e = fits v in
     let b = e .before .before in
-    cut-done (there b) (lent b) (e .before .cut-refusal .ensures) (e .if1 .left) (cut d .cut-plate .ensures) (d .clear2 .ensures)
+    let s = start (b .before .before .before .before .before) .args in
+    cut-done (there b) (v .before .before .shape-of .ensures) (s .limit) (lent b) (e .before .cut-refusal .ensures) (e .if1 .left) (v .cut-values .ensures)
+    (d .deliver .ensures)
 
 pub cut-record-spec : {M : Type 1} → statement M
 cut-record-spec =
@@ -131,8 +141,9 @@ cut-record-spec =
     refused-head-requires-2
     same-length-2
     returns-2
-    cut-plate-requires
-    clear-requires-2
+    shape-of-requires
+    cut-values-requires
+    deliver-requires
     same-length-3
     same-length-4
     returns-3)

@@ -8,7 +8,7 @@ use lib.ListN.{length}
 use Rattle.record_parse.specs.Parse.{readOf}
 use Rattle.record_tree.proofs.Finding.{TreeFound, tree-found, found-clearable}
 use Rattle.record.proofs.Refused.{Stopped, stopped, sizes-stopped, sizes-refused}
-use Rattle.record.proofs.Done.{tree-few, tree-some, tree-room, tree-stands, tree-nodes-few, sizes-fit, sizes-done}
+use Rattle.record.proofs.Done.{found-stands, nodes-few, sizes-done, sizes-fit, tree-few, tree-room}
 
 -- ---- what stands at each place
 abbrev start : tie.After-read-tree → tie.Start
@@ -30,8 +30,11 @@ refused c =
     stopped (t .result) (t .ensures) (c .before .before .match .keys2) (c .give-up .ensures .0) (c .give-up .ensures .1)
 
 -- the tables are written
+abbrev shaped : tie.After-list-sizes → tie.After-shape-of
+shaped c = c .before .before .before .before
+
 abbrev fits : tie.After-list-sizes → tie.Else1
-fits c = c .before .before .before .before
+fits c = shaped c .before
 
 abbrev listed : tie.After-darkest-of → tie.After-list-sizes
 listed c = c .before .before .before .before .before .before
@@ -84,22 +87,28 @@ returns-2 c =
     let t = there (e .before .before) in
     rw (c .refused-sizes2 .ensures) (sizes-refused (t .is) (t .frame) (e .before .tables-refusal .ensures) (e .if1 .taken) (d .clear .ensures))
 
+shape-of-requires : tie.Need-shape-of-requires
+shape-of-requires c κs = search needs
+
 list-sizes-requires : tie.Need-list-sizes-requires
 list-sizes-requires c κs =
-    let e = c .before .before .before in
+    let h = c .before .before .before in
+    let e = h .before in
     let t = there (e .before .before) in
-    (tree-stands t, sizes-fit t (e .before .tables-refusal .ensures) (e .if1 .left))
+    (found-stands t (h .shape-of .ensures), sizes-fit t (h .shape-of .ensures) (e .before .tables-refusal .ensures) (e .if1 .left))
 
 darkest-of-requires : tie.Need-darkest-of-requires
 darkest-of-requires c κs =
-    let t = there (fits (c .before .before .before .before .before) .before .before) in
-    (tree-room t, tree-some t)
+    let l = c .before .before .before .before .before in
+    found-stands (there (fits l .before .before)) (shaped l .shape-of .ensures)
 
 clear-requires-2 : tie.Need-clear-requires-2
 clear-requires-2 c κs = tree-room (there (fits (listed (c .before)) .before .before))
 
-cast-t18 : tie.Need-cast-t18
-cast-t18 c = omega (arith, tree-nodes-few (there (fits (listed (c .before .before .before .before)) .before .before)))
+cast-t19 : tie.Need-cast-t19
+cast-t19 c =
+    let l = listed (c .before .before .before .before) in
+    omega (arith, nodes-few (there (fits l .before .before)) (shaped l .shape-of .ensures))
 
 same-length-3 : tie.Need-same-length-3
 same-length-3 c = search needs
@@ -114,9 +123,10 @@ returns-3 : tie.Need-returns-3
 returns-3 c =
     let d = c .before .before in
     let k = d .before .before in
-    let e = fits (listed k) in
-    sizes-done (there (e .before .before)) (e .before .tables-refusal .ensures) (e .if1 .left) (listed k .list-sizes .ensures) (k .darkest-of .ensures)
-    (d .clear2 .ensures)
+    let l = listed k in
+    let e = fits l in
+    sizes-done (there (e .before .before)) (shaped l .shape-of .ensures) (e .before .tables-refusal .ensures) (e .if1 .left) (l .list-sizes .ensures)
+    (k .darkest-of .ensures) (d .clear2 .ensures)
 
 pub size-list-spec : {M : Type 1} → statement M
 size-list-spec =
@@ -135,10 +145,11 @@ size-list-spec =
     refused-sizes-requires-2
     same-length-2
     returns-2
+    shape-of-requires
     list-sizes-requires
     darkest-of-requires
     clear-requires-2
-    cast-t18
+    cast-t19
     same-length-3
     same-length-4
     same-length-5
