@@ -62,12 +62,12 @@ spelt s {work} {work′} {p} {wd} {ht} {k} e x is =
       frame = y .1;
     }
 
--- its shape g
 module _ {s work w₁ : List ℕ} {wd ht k : ℕ} (sp : PlateSpelt s work w₁ wd ht k) where
   -- the product of the sizes fits
   pub spelt-few : wd * ht ≤ maxPixels
   spelt-few = grid-sizes wd ht (sp .accepted .sizes) .few-pixels
 
+  -- g: its shape
   module _ {g : Shape} (is : g ≡ shapeOf (wd * ht) wd ht k) where
     -- the tree can be built
     pub spelt-buildable : Buildable g w₁
