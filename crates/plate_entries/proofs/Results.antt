@@ -7,31 +7,28 @@ use native.Mathlib.Omega.{arith}
 use lib.Dec.{eqb}
 use lib.ListN.{length, drop, replicate}
 use borrow.Author.Tests.{ne-eqb}
-use Rattle.meaning.specs.Nodes.{anchors}
-use Rattle.meaning.specs.Plate.{greatestGrey, touch}
+use Rattle.meaning.specs.Nodes.{nodesOf}
+use Rattle.meaning.specs.Plate.{grey, touch}
 use Rattle.meaning.specs.Sets.{pick, table}
-use Rattle.work_columns.specs.Columns.{Room, col}
-use Rattle.work_columns.specs.Layout.{GREY}
-use Rattle.plate_greys.specs.Tree.{PlateTree}
+use Rattle.work_columns.specs.Columns.{Room}
+use Rattle.work_columns.specs.Layout.{shapeOf}
+use Rattle.maxtree_columns.specs.Tree.{Tree}
+use Rattle.maxtree_columns.proofs.Tree.{few-nodes}
 use Rattle.theory_lists.proofs.Lists.{table-same}
 use Rattle.plate_tree.specs.Listing.{Started}
-use Rattle.plate_tree.proofs.Nodes.{listed-count, nodes-same}
 use Rattle.plate_tree.proofs.Starting.{list-done, list-refused}
 use Rattle.plate_entries.specs.declared.Node.{Node}
 use Rattle.plate_entries.specs.Entries.{EntriesListed, Fillable, entries, nodeEntry, overNodes, standing}
 use Rattle.plate_entries.proofs.Lists.{filled-none}
 
 -- the entries that stand in the work space are the definition's
-module _ {k w h : ℕ} {f work w₁ : List ℕ} {count : ℕ} (p : PlateTree false k w h f work w₁ count) where
-  standing-entries : table count (standing (length f) w₁) ≡ entries k w f
-  unfolding standing entries
-  standing-entries =
-      let n : ℕ = length f in
-      let g : ℕ → ℕ = col GREY n w₁ in
-      let xs : List ℕ = anchors greatestGrey n (touch k w) g in
-      let t = p .facts .tree in
-      table-same count (standing n w₁) (nodeEntry n (touch k w) g xs) (λ i l. rw (t .level-is i l, t .parent-is i l, t .area-is i l, t .anchor-is i l))
-      ∙ rw (listed-count p, nodes-same p, p .same)
+standing-entries : {k w h : ℕ} {f w₁ : List ℕ} {count : ℕ} → Tree (shapeOf (length f) w h k) f w₁ count
+    → table count (standing (length f) w₁) ≡ entries k w f
+unfolding standing entries
+standing-entries {k} {w} {h} {f} {w₁} {count} t =
+    table-same count (standing (length f) w₁) (nodeEntry (length f) (touch k w) (grey f) (nodesOf k w f))
+    (λ i l. rw (t .level-is i l, t .parent-is i l, t .area-is i l, t .anchor-is i l))
+    ∙ rw (t .nodes)
 
 not-zero : (r : ℕ) → eqb (suc r) 0 ≡ false
 not-zero r = ne-eqb (suc r) 0 (λ x. omega (arith, x))
@@ -39,14 +36,14 @@ not-zero r = ne-eqb (suc r) 0 (λ x. omega (arith, x))
 module _ {k w h : ℕ} {f : List ℕ} (list : List Node) {work w₁ : List ℕ} where
   -- such a list can be filled: a refused list has no entries
   pub fillable : (r count : ℕ) → Started k w h f (length list) work w₁ r count → Fillable (length f) count w₁ list
-  fillable zero count s = record { room = λ _. s .tree-stands refl .room; few = s .tree-stands refl .facts .few-nodes; places = s .fits }
+  fillable zero count s = record { room = λ _. s .tree-stands refl .tree .room; few = few-nodes (s .tree-stands refl .tree); places = s .fits }
   fillable (suc r) count s =
       let z : count ≡ 0 = s .counted ∙ rw (not-zero r) in
       record { room = λ l. absurd (omega (arith, z, l)); few = omega (arith, z); places = s .fits }
 
   -- the work space may be zeroed
   pub endable : (r count : ℕ) → Started k w h f (length list) work w₁ r count → r ≡ 0 → Room w₁ (length f)
-  endable r count s z = s .tree-stands z .room
+  endable r count s z = s .tree-stands z .tree .room
 
   -- the list that was filled, and the work space that was zeroed
   pub entries-listed : (r count : ℕ) {list′ : List Node} {w₂ : List ℕ} → Started k w h f (length list) work w₁ r count
@@ -55,7 +52,7 @@ module _ {k w h : ℕ} {f : List ℕ} (list : List Node) {work w₁ : List ℕ} 
       → EntriesListed k w h f list list′ work w₂ r count
   entries-listed zero count s e c = record {
     answer = list-done s refl c;
-    nodes = e ∙ ap (λ (xs : List Node). overNodes xs list) (standing-entries (s .tree-stands refl));
+    nodes = e ∙ ap (λ (xs : List Node). overNodes xs list) (standing-entries (s .tree-stands refl .tree));
   }
   entries-listed (suc r) count {list′} {w₂} s e c =
       let z : count ≡ 0 = s .counted ∙ rw (not-zero r) in
