@@ -10,7 +10,7 @@ pub fn plate_tree(image: &[u8], negated: bool, g: Shape, work: &mut [u32]) -> us
     ensures { λ r. ⌜ PlateTree negated g (now (image .entry)) (now (work .entry)) (now (work .exit)) r ⌝ }
 {
     plate_greys::load(image, negated, work);
-    maxtree::build_tree(work, g)
+    maxtree::build_tree(work, g.pixels, g.width, g.height, g.connectivity)
 }
 
 // What the node list answers: its refusal, or 0 and the number of nodes.

@@ -39,7 +39,7 @@ pub fn read_tree(bytes: &[u8], work: &mut [u32]) -> Found
     };
     let n = (width * height) as usize;
     let g = work_columns::shape_of(n, width, height, connectivity);
-    let count = maxtree::build_tree(work, g);
+    let count = maxtree::build_tree(work, g.pixels, g.width, g.height, g.connectivity);
     if !record_fields::same(work, g, count, bytes) {
         return Found::Late(24, n);
     }
