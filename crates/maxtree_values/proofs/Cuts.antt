@@ -25,14 +25,10 @@ use Rattle.maxtree_values.proofs.Values.{valued-refl, valued-store, val
 
 -- ---- one climb
 
-module _ {limit n : ℕ} {w : List ℕ} {settled i r : ℕ} where
-  -- from a node whose value is stored
-  pub climbed-stored : i < settled → r ≡ col VALUE n w i → r < 4294967296 → Climbed limit n w settled i r
-  climbed-stored l e b = record { fits = b; value-is = λ v c. e ∙ sym (c .stored i l) }
-
-  -- from a node that qualifies
-  pub climbed-here : limit ≤ col ATTRIBUTE n w i → r ≡ col LEVEL n w i → r < 4294967296 → Climbed limit n w settled i r
-  climbed-here q e b = record { fits = b; value-is = λ v c. e ∙ sym (c .kept i (omega arith) q) }
+-- from a node that qualifies
+pub climbed-here : {limit n : ℕ} {w : List ℕ} {settled i r : ℕ} → limit ≤ col ATTRIBUTE n w i → r ≡ col LEVEL n w i → r < 4294967296
+    → Climbed limit n w settled i r
+climbed-here {i = i} q e b = record { fits = b; value-is = λ v c. e ∙ sym (c .kept i (omega arith) q) }
 
 -- from another: that of its parent, which has a smaller number
 module _ {limit n : ℕ} {w : List ℕ} {i : ℕ} (can : Climbable limit n w (suc i)) (s : col ATTRIBUTE n w i < limit) {p : ℕ} (e : p ≡ col PARENT n w i)
@@ -45,6 +41,11 @@ module _ {limit n : ℕ} {w : List ℕ} {i : ℕ} (can : Climbable limit n w (su
         let l = parent-first in
         record { room = can .room; few = omega (arith, can .few); earlier = λ j h. can .earlier j (omega arith) }
 
+    -- its value is stored
+    pub climbed-stored : {settled r : ℕ} → p < settled → r ≡ col VALUE n w p → r < 4294967296 → Climbed limit n w settled i r
+    climbed-stored l x b = record { fits = b; value-is = λ v c. x ∙ sym (c .stored p l) ∙ ap v e ∙ sym (c .passed i (omega arith) s) }
+
+    -- or the climb goes on from it
     pub climbed-parent : {settled r : ℕ} → Climbed limit n w settled p r → Climbed limit n w settled i r
     climbed-parent a = record {
       fits = a .fits;

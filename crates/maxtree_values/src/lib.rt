@@ -18,21 +18,21 @@ use work_columns::PARENT;
 use work_columns::Shape;
 use work_columns::VALUE;
 
-// The value of node i in the cut at the limit: the level of the first node, from i up to the root, whose attribute is at least the limit. The nodes
-// before `settled` have their values stored, so that no climb from a node at most `settled` passes two. The slice is lent on as a new one: calls that
-// pass their own on are slower (docs/DECISIONS.md).
+// The value of node i in the cut at the limit: the level of the first node, from i up to the root, whose attribute is at least the limit. The values of
+// the nodes before `settled` are stored, so that a climb ends there. The slice is lent on anew: a call that passes its own on costs many times as much
+// (docs/DECISIONS.md).
 fn climb(w: &[u32], n: usize, limit: usize, settled: usize, i: usize) -> usize
     requires { ⌜ Climbable limit n (now w) (suc i) ⌝ }
     ensures { λ r. ⌜ Climbed limit n (now (w .entry)) settled i r ⌝ }
 {
-    if i < settled {
-        return work_columns::get(w, n, VALUE, i);
-    }
     let attribute = work_columns::get(w, n, ATTRIBUTE, i);
     if limit <= attribute {
         return work_columns::get(w, n, LEVEL, i);
     }
     let parent = work_columns::get(w, n, PARENT, i);
+    if parent < settled {
+        return work_columns::get(w, n, VALUE, parent);
+    }
     let lent: &[u32] = w;
     climb(lent, n, limit, settled, parent)
 }
