@@ -1,16 +1,17 @@
 -- The climb to a node that qualifies, and the loop that gives each node its value in the cut.
 use mathlib.Core.Path.{_≡_, sym, ap, _∙_}
-use mathlib.Core.Bool.{Bool}
+use mathlib.Core.Bool.{Bool, true, false, not}
 use mathlib.Core.List.{List}
 use Prim.Native.Nat.{ℕ, zero, suc, _+_, _≤_, _<_}
 use native.Mathlib.Omega.{arith}
-use lib.Dec.{T, leb→le, le→leb}
+use lib.Dec.{T, leb, leb→le, le→leb, nleb→lt}
 use lib.ListN.{length}
 use Rattle.meaning.specs.Cut.{cut}
 use Rattle.meaning.specs.Nodes.{holds}
 use Rattle.meaning.specs.Opening.{Criterion, atLeast, attribute, opened, openedAt}
 use Rattle.meaning.specs.Plate.{grey}
 use Rattle.meaning.specs.Sets.{nth, table}
+use Rattle.theory_lists.proofs.Tests.{passes}
 use Rattle.theory_opening.proofs.Opening.{opened-below}
 use Rattle.theory_tree.proofs.Cuts.{cut-kept, cut-own, cut-parent, cut-root}
 use Rattle.theorems.proofs.Plates.{at-limit, cut-is-opened}
@@ -25,14 +26,22 @@ use Rattle.maxtree_values.proofs.Values.{valued-refl, valued-store, val
 
 -- ---- one climb
 
--- from a node that qualifies
-pub climbed-here : {limit n : ℕ} {w : List ℕ} {settled i r : ℕ} → limit ≤ col ATTRIBUTE n w i → r ≡ col LEVEL n w i → r < 4294967296
-    → Climbed limit n w settled i r
-climbed-here {i = i} q e b = record { fits = b; value-is = λ v c. e ∙ sym (c .kept i (omega arith) q) }
+module _ {limit n : ℕ} {w : List ℕ} {settled i r : ℕ} where
+  -- from a node whose value is stored
+  pub climbed-stored : i < settled → r ≡ col VALUE n w i → r < 4294967296 → Climbed limit n w settled i r
+  climbed-stored l e b = record { fits = b; value-is = λ v c. e ∙ sym (c .stored i l) }
+
+  -- from a node that qualifies
+  pub climbed-here : leb limit (col ATTRIBUTE n w i) ≡ true → r ≡ col LEVEL n w i → r < 4294967296 → Climbed limit n w settled i r
+  climbed-here q e b = record { fits = b; value-is = λ v c. e ∙ sym (c .kept i (omega arith) (leb→le limit (col ATTRIBUTE n w i) (passes q))) }
 
 -- from another: that of its parent, which has a smaller number
-module _ {limit n : ℕ} {w : List ℕ} {i : ℕ} (can : Climbable limit n w (suc i)) (s : col ATTRIBUTE n w i < limit) {p : ℕ} (e : p ≡ col PARENT n w i)
+module _ {limit n : ℕ} {w : List ℕ} {i : ℕ} (can : Climbable limit n w (suc i)) (x : leb limit (col ATTRIBUTE n w i) ≡ false) {p : ℕ}
+    (e : p ≡ col PARENT n w i)
   where
+    s : col ATTRIBUTE n w i < limit
+    s = nleb→lt limit (col ATTRIBUTE n w i) (rw x tt)
+
     pub parent-first : p < i
     parent-first = omega (arith, can .earlier i (omega arith) s)
 
@@ -41,11 +50,6 @@ module _ {limit n : ℕ} {w : List ℕ} {i : ℕ} (can : Climbable limit n w (su
         let l = parent-first in
         record { room = can .room; few = omega (arith, can .few); earlier = λ j h. can .earlier j (omega arith) }
 
-    -- its value is stored
-    pub climbed-stored : {settled r : ℕ} → p < settled → r ≡ col VALUE n w p → r < 4294967296 → Climbed limit n w settled i r
-    climbed-stored l x b = record { fits = b; value-is = λ v c. x ∙ sym (c .stored p l) ∙ ap v e ∙ sym (c .passed i (omega arith) s) }
-
-    -- or the climb goes on from it
     pub climbed-parent : {settled r : ℕ} → Climbed limit n w settled p r → Climbed limit n w settled i r
     climbed-parent a = record {
       fits = a .fits;

@@ -1,13 +1,14 @@
 // Values by node in the work space, and what an operation writes out of it.
 ghost use mathlib.Core.Path.{_≡_};
 ghost use Prim.Native.Nat.{ℕ, suc, _≤_, _<_};
+ghost use lib.Dec.{leb};
 ghost use lib.ListN.{length};
 ghost use Rattle.meaning.specs.Answers.{over};
 ghost use Rattle.meaning.specs.Cut.{cut};
 ghost use Rattle.meaning.specs.Maxima.{marks};
 ghost use Rattle.meaning.specs.Sets.{table};
-ghost use Rattle.work_columns.specs.Columns.{col};
-ghost use Rattle.work_columns.specs.Layout.{greysIn};
+ghost use Rattle.work_columns.specs.Columns.{Room, col};
+ghost use Rattle.work_columns.specs.Layout.{ATTRIBUTE, greysIn};
 ghost use Rattle.maxtree_columns.specs.Tree.{TreeStands};
 ghost use Rattle.plate_greys.specs.Sides.{sideGrey, sidePlate};
 ghost use Rattle.maxtree_values.specs.Values.{Climbable, Climbed, ValuesAre, Ones, Writable, valueAt, valuesIn, Delivered, Copyable};
@@ -18,23 +19,42 @@ use work_columns::PARENT;
 use work_columns::Shape;
 use work_columns::VALUE;
 
-// The value of node i in the cut at the limit: the level of the first node, from i up to the root, whose attribute is at least the limit. The values of
-// the nodes before `settled` are stored, so that a climb ends there. The slice is lent on anew: a call that passes its own on costs many times as much
+// Is the attribute of node i at least the limit?
+fn qualifies(w: &[u32], n: usize, limit: usize, i: usize) -> bool
+    requires { ⌜ Room (now w) n × (i < n) ⌝ }
+    ensures { λ r. ⌜ r ≡ leb limit (col ATTRIBUTE n (now (w .entry)) i) ⌝ }
+{
+    limit <= work_columns::get(w, n, ATTRIBUTE, i)
+}
+
+// The value of node i in the cut at the limit: the level of the first node, from i up to the root, that qualifies. The values of the nodes before
+// `settled` are stored, so that a climb ends there. The slice is lent on anew: a call that passes its own on costs many times as much
 // (docs/DECISIONS.md).
 fn climb(w: &[u32], n: usize, limit: usize, settled: usize, i: usize) -> usize
     requires { ⌜ Climbable limit n (now w) (suc i) ⌝ }
     ensures { λ r. ⌜ Climbed limit n (now (w .entry)) settled i r ⌝ }
 {
-    let attribute = work_columns::get(w, n, ATTRIBUTE, i);
-    if limit <= attribute {
+    if i < settled {
+        return work_columns::get(w, n, VALUE, i);
+    }
+    if qualifies(w, n, limit, i) {
         return work_columns::get(w, n, LEVEL, i);
     }
     let parent = work_columns::get(w, n, PARENT, i);
-    if parent < settled {
-        return work_columns::get(w, n, VALUE, parent);
-    }
     let lent: &[u32] = w;
     climb(lent, n, limit, settled, parent)
+}
+
+// The same of the first node without a value. What calls itself is not inlined, so a node that qualifies is spared the call.
+fn cut_value(w: &[u32], n: usize, limit: usize, i: usize) -> usize
+    requires { ⌜ Climbable limit n (now w) (suc i) ⌝ }
+    ensures { λ r. ⌜ Climbed limit n (now (w .entry)) i i r ⌝ }
+{
+    if qualifies(w, n, limit, i) {
+        return work_columns::get(w, n, LEVEL, i);
+    }
+    let parent = work_columns::get(w, n, PARENT, i);
+    climb(w, n, limit, i, parent)
 }
 
 // Gives each node its value in the cut of the plate at the limit.
@@ -46,7 +66,7 @@ pub fn cut_values(w: &mut [u32], g: Shape, count: usize, limit: usize)
 {
     let mut i: usize = 0;
     while i < count {
-        let v = climb(w, g.pixels, limit, i, i);
+        let v = cut_value(w, g.pixels, limit, i);
         work_columns::put(w, g.pixels, VALUE, i, v);
         i += 1;
     }

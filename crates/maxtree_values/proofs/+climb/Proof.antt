@@ -1,5 +1,6 @@
 -- The cycle of calls {climb}. The measure is the node's number, which falls.
 use Prim.Native.Nat.{ℕ, _<_}
+use mathlib.Core.Path.{sym, _∙_}
 use native.Mathlib.Omega.{arith}
 use borrow.Fn.Kinds.{In}
 use borrow.Fn.PlainCycle.{Measures, is, falls, and}
@@ -7,6 +8,7 @@ use Rattle.maxtree_values.proofs.Cuts.{climbable-parent, climbed-here, 
 use Rattle.maxtree_values.proofs.climb.Reads as climb
 use Rattle.maxtree_values.proofs.climb.Kinds as climb-kinds
 use Rattle.maxtree_values.proofs.+climb.Lts-climb as climb-lts
+use Rattle.maxtree_values.proofs.qualifies.Reads as qualifies-reads
 use Rattle.work_columns.proofs.get.Reads as get-reads
 use Rattle.maxtree_values.proofs.+climb.{statement}
 use Rattle.maxtree_values.proofs.+climb.Tie.{close}
@@ -23,54 +25,42 @@ climb-under t = and 1 climb-kinds.ps (falls 1 climb-kinds.ps _<_ μ-climb t) cli
 
 -- what it may call
 abbrev calls : ℕ → climb-lts.Claims
-calls t = (get-reads.Asked, get-reads.Learnt, climb-under t, climb.Post)
+calls t = (get-reads.Asked, get-reads.Learnt, qualifies-reads.Asked, qualifies-reads.Learnt, climb-under t, climb.Post)
 
 module _ (t : ℕ) where
   get-requires : climb-lts.Need-get-requires (calls t) (climb-at t) climb.Post
-  get-requires c κs = let can = c .before .pre .1 in (can .room, (omega arith, omega (arith, can .few)))
-
-  get-requires-2 : climb-lts.Need-get-requires-2 (calls t) (climb-at t) climb.Post
-  get-requires-2 c κs = let can = c .before .before .before .pre .1 in (can .room, (omega arith, omega (arith, can .few)))
+  get-requires c κs = let can = c .before .before .pre .1 in (can .room, (omega arith, omega (arith, can .few)))
 
   returns : climb-lts.Need-returns (calls t) (climb-at t) climb.Post
-  returns c = climbed-here (omega (arith, c .before .if1 .taken, c .before .before .get .ensures .0)) (c .get2 .ensures .0) (c .get2 .ensures .1)
+  returns c = climbed-stored (c .before .if1 .taken) (c .get .ensures .0) (c .get .ensures .1)
 
-  get-requires-3 : climb-lts.Need-get-requires-3 (calls t) (climb-at t) climb.Post
-  get-requires-3 c κs = let can = c .before .before .before .pre .1 in (can .room, (omega arith, omega (arith, can .few)))
+  qualifies-requires : climb-lts.Need-qualifies-requires (calls t) (climb-at t) climb.Post
+  qualifies-requires c κs = let can = c .before .before .pre .1 in (can .room, omega (arith, can .few))
 
-  get-requires-4 : climb-lts.Need-get-requires-4 (calls t) (climb-at t) climb.Post
-  get-requires-4 c κs =
-      let e = c .before .before in
-      let can = e .before .before .before .pre .1 in
-      let p = parent-first can (omega (arith, e .if1 .left, e .before .get .ensures .0)) (c .before .get3 .ensures .0) in
-      (can .room, (omega arith, omega (arith, p, can .few)))
+  get-requires-2 : climb-lts.Need-get-requires-2 (calls t) (climb-at t) climb.Post
+  get-requires-2 c κs = let can = c .before .before .before .before .pre .1 in (can .room, (omega arith, omega (arith, can .few)))
 
   returns-2 : climb-lts.Need-returns-2 (calls t) (climb-at t) climb.Post
-  returns-2 c =
-      let p = c .before .before in
-      let e = p .before in
-      climbed-stored (e .before .before .before .pre .1) (omega (arith, e .if1 .left, e .before .get .ensures .0)) (p .get3 .ensures .0)
-      (c .before .if2 .taken) (c .get4 .ensures .0) (c .get4 .ensures .1)
+  returns-2 c = climbed-here (sym (c .before .before .qualifies .ensures) ∙ c .before .if2 .taken) (c .get2 .ensures .0) (c .get2 .ensures .1)
+
+  get-requires-3 : climb-lts.Need-get-requires-3 (calls t) (climb-at t) climb.Post
+  get-requires-3 c κs = let can = c .before .before .before .before .pre .1 in (can .room, (omega arith, omega (arith, can .few)))
 
   climb-requires : climb-lts.Need-climb-requires (calls t) (climb-at t) climb.Post
   climb-requires c κs =
-      let p = c .before in
-      let e = p .before in
-      let s = e .before .before .before in
-      let q = e .before .get .ensures .0 in (
-        omega (arith, parent-first (s .pre .1) (omega (arith, e .if1 .left, q)) (p .get3 .ensures .0), s .pre .0),
-        climbable-parent (s .pre .1) (omega (arith, e .if1 .left, q)) (p .get3 .ensures .0),
-      )
+      let s = c .before .before .before .before .before in
+      let x = sym (c .before .before .qualifies .ensures) ∙ c .before .if2 .left in
+      (omega (arith, parent-first (s .pre .1) x (c .get3 .ensures .0), s .pre .0), climbable-parent (s .pre .1) x (c .get3 .ensures .0))
 
   returns-3 : climb-lts.Need-returns-3 (calls t) (climb-at t) climb.Post
   returns-3 c =
-      let p = c .before .before in
-      let e = p .before in
-      climbed-parent (e .before .before .before .pre .1) (omega (arith, e .if1 .left, e .before .get .ensures .0)) (p .get3 .ensures .0) (c .climb .ensures)
+      let e = c .before .before in
+      climbed-parent (e .before .before .before .before .pre .1) (sym (e .before .qualifies .ensures) ∙ e .if2 .left) (c .before .get3 .ensures .0)
+      (c .climb .ensures)
 
 pub +climb-spec : {M : Type 1} → statement M
 +climb-spec =
     close μ-climb
     (λ t.
-    climb-lts.spec (calls t) (climb-at t) climb.Post (get-requires t) (get-requires-2 t) (returns t) (get-requires-3 t) (get-requires-4 t) (returns-2 t)
-    (climb-requires t) (returns-3 t))
+    climb-lts.spec (calls t) (climb-at t) climb.Post (get-requires t) (returns t) (qualifies-requires t) (get-requires-2 t) (returns-2 t)
+    (get-requires-3 t) (climb-requires t) (returns-3 t))

@@ -16,13 +16,13 @@ abbrev μ-loop : tie.MeasureT-loop
 loop-holds : tie.Need-loop-holds Inv-loop μ-loop
 loop-holds c = cutting-first (c .before .pre .0) (c .before .pre .1)
 
-climb-requires : tie.Need-climb-requires Inv-loop μ-loop
-climb-requires c κs = cutting-climbable (c .before .before .loop .inv) (c .before .loop-test .taken)
+cut-value-requires : tie.Need-cut-value-requires Inv-loop μ-loop
+cut-value-requires c κs = cutting-climbable (c .before .before .loop .inv) (c .before .loop-test .taken)
 
 put-requires : tie.Need-put-requires Inv-loop μ-loop
 put-requires c κs =
     let a = c .before .before .before .before .loop .inv in
-    (a .tree .room, (omega arith, (omega (arith, c .before .before .before .loop-test .taken, few-nodes (a .tree)), c .before .climb .ensures .fits)))
+    (a .tree .room, (omega arith, (omega (arith, c .before .before .before .loop-test .taken, few-nodes (a .tree)), c .before .cut-value .ensures .fits)))
 
 add-i : tie.Need-add-i Inv-loop μ-loop
 add-i c =
@@ -35,7 +35,7 @@ loop-less c = omega arith
 loop-again : tie.Need-loop-again Inv-loop μ-loop
 loop-again c =
     let l = c .before .before .before .before .before .before in
-    cutting-more (l .before .loop .inv) (l .loop-test .taken) (c .before .before .before .before .climb .ensures) (c .before .before .put .ensures)
+    cutting-more (l .before .loop .inv) (l .loop-test .taken) (c .before .before .before .before .cut-value .ensures) (c .before .before .put .ensures)
 
 same-length : tie.Need-same-length Inv-loop μ-loop
 same-length c = c .before .loop .inv .valued .frame .len
@@ -50,7 +50,7 @@ cut-values-spec =
     Inv-loop
     μ-loop
     loop-holds
-    climb-requires
+    cut-value-requires
     put-requires
     add-i
     loop-less
