@@ -45,7 +45,8 @@ fn climb(w: &[u32], n: usize, limit: usize, settled: usize, i: usize) -> usize
     climb(lent, n, limit, settled, parent)
 }
 
-// The same of the first node without a value. What calls itself is not inlined, so a node that qualifies is spared the call.
+// The same of the first node without a value, i. What calls itself is never inlined, so a node that qualifies, or whose parent has its value, is spared
+// the call (docs/DECISIONS.md).
 fn cut_value(w: &[u32], n: usize, limit: usize, i: usize) -> usize
     requires { ⌜ Climbable limit n (now w) (suc i) ⌝ }
     ensures { λ r. ⌜ Climbed limit n (now (w .entry)) i i r ⌝ }
@@ -54,6 +55,9 @@ fn cut_value(w: &[u32], n: usize, limit: usize, i: usize) -> usize
         return work_columns::get(w, n, LEVEL, i);
     }
     let parent = work_columns::get(w, n, PARENT, i);
+    if parent < i {
+        return work_columns::get(w, n, VALUE, parent);
+    }
     climb(w, n, limit, i, parent)
 }
 
