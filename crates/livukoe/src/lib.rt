@@ -104,7 +104,8 @@ pub extern "C" fn livukoe_node_entries(
 #[no_mangle]
 pub extern "C" fn livukoe_read_pgm(file: &[u8], out: &mut [u8]) -> PgmRead
     ensures { λ r. ⌜ r ≡ readPgm (now (file .entry)) (length (now (out .entry))) ⌝ }
-    ensures { λ _. ⌜ now (out .exit) ≡ outAfter (readPgm (now (file .entry)) (length (now (out .entry))) .refusal) (rasterOf (now (file .entry))) (now (out .entry)) ⌝ }
+    ensures { λ _. ⌜ now (out .exit) ≡ outAfter (readPgm (now (file .entry)) (length (now (out .entry))) .refusal)
+        (rasterOf (now (file .entry))) (now (out .entry)) ⌝ }
 {
     pgm::read_pgm(file, out)
 }
@@ -127,7 +128,8 @@ pub extern "C" fn livukoe_write_record(
     out: &mut [u8],
     work: &mut [u32],
 ) -> Written
-    ensures { λ r. ⌜ WrittenRecord connectivity width height (now (image .entry)) (now (out .entry)) (now (out .exit)) (now (work .entry)) (now (work .exit)) r ⌝ }
+    ensures { λ r. ⌜ WrittenRecord connectivity width height (now (image .entry)) (now (out .entry)) (now (out .exit))
+        (now (work .entry)) (now (work .exit)) r ⌝ }
 {
     record::write_record(image, width, height, connectivity, out, work)
 }
@@ -135,7 +137,8 @@ pub extern "C" fn livukoe_write_record(
 // Reads a record: its plate.
 #[no_mangle]
 pub extern "C" fn livukoe_read_record(bytes: &[u8], out: &mut [u8], work: &mut [u32]) -> Head
-    ensures { λ r. ⌜ ReadRecord (readOf (now (bytes .entry)) (length (now (work .entry)))) (now (out .entry)) (now (out .exit)) (now (work .entry)) (now (work .exit)) r ⌝ }
+    ensures { λ r. ⌜ ReadRecord (readOf (now (bytes .entry)) (length (now (work .entry)))) (now (out .entry)) (now (out .exit))
+        (now (work .entry)) (now (work .exit)) r ⌝ }
 {
     record::read_record(bytes, out, work)
 }
@@ -148,7 +151,8 @@ pub extern "C" fn livukoe_cut_record(
     out: &mut [u8],
     work: &mut [u32],
 ) -> Head
-    ensures { λ r. ⌜ CutRecord (readOf (now (bytes .entry)) (length (now (work .entry)))) limit (now (out .entry)) (now (out .exit)) (now (work .entry)) (now (work .exit)) r ⌝ }
+    ensures { λ r. ⌜ CutRecord (readOf (now (bytes .entry)) (length (now (work .entry)))) limit (now (out .entry)) (now (out .exit))
+        (now (work .entry)) (now (work .exit)) r ⌝ }
 {
     record::cut_record(bytes, limit, out, work)
 }
@@ -161,7 +165,8 @@ pub extern "C" fn livukoe_size_list(
     losses: &mut [u64],
     work: &mut [u32],
 ) -> SizeHead
-    ensures { λ r. ⌜ ListedSizes (readOf (now (bytes .entry)) (length (now (work .entry)))) (now (counts .entry)) (now (counts .exit)) (now (losses .entry)) (now (losses .exit)) (now (work .entry)) (now (work .exit)) r ⌝ }
+    ensures { λ r. ⌜ ListedSizes (readOf (now (bytes .entry)) (length (now (work .entry)))) (now (counts .entry)) (now (counts .exit))
+        (now (losses .entry)) (now (losses .exit)) (now (work .entry)) (now (work .exit)) r ⌝ }
 {
     record::size_list(bytes, counts, losses, work)
 }
@@ -180,7 +185,9 @@ pub extern "C" fn livukoe_write_cut_list(
     losses: &mut [u64],
     work: &mut [u32],
 ) -> CutListed
-    ensures { λ r. ⌜ WrittenCutListed connectivity width height limit (now (image .entry)) (now (bytes .entry)) (now (bytes .exit)) (now (out .entry)) (now (out .exit)) (now (counts .entry)) (now (counts .exit)) (now (losses .entry)) (now (losses .exit)) (now (work .entry)) (now (work .exit)) r ⌝ }
+    ensures { λ r. ⌜ WrittenCutListed connectivity width height limit (now (image .entry)) (now (bytes .entry)) (now (bytes .exit))
+        (now (out .entry)) (now (out .exit)) (now (counts .entry)) (now (counts .exit)) (now (losses .entry)) (now (losses .exit))
+        (now (work .entry)) (now (work .exit)) r ⌝ }
 {
     record_write_cut_list::write_cut_list(
         image,

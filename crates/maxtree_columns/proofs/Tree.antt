@@ -1,9 +1,9 @@
 -- Laws of the columns of a tree that stands in the work space: its nodes, the node of a pixel, levels, parents, areas, what is held against the limit,
 -- children; and that the tree stands as long as its columns do.
-use mathlib.Core.Path.{_≡_, refl, sym, ap, _∙_}
+use mathlib.Core.Path.{_≡_, sym, ap, _∙_}
 use mathlib.Core.Bool.{true}
 use mathlib.Core.List.{List}
-use Prim.Native.Nat.{ℕ, zero, suc, _-_, _≤_, _<_}
+use Prim.Native.Nat.{ℕ, _≤_, _<_}
 use native.Mathlib.Nat.{le-trans}
 use native.Mathlib.Omega.{arith}
 use lib.ListN.{length}
@@ -15,14 +15,13 @@ use Rattle.meaning.specs.Plate.{greatestGrey, grey}
 use Rattle.meaning.specs.Sets.{area, elem, nth}
 use Rattle.theory_lists.proofs.Lists.{distinct-area}
 use Rattle.theory_lists.proofs.Sets.{area-le}
-use Rattle.theory_lists.proofs.Sums.{area-pos}
 use Rattle.theory_connectivity.proofs.Touch.{fits-grid}
 use Rattle.theory_tree.specs.Tree.{Nodes}
 use Rattle.theory_tree.proofs.NodeSets.{anchor-holds}
-use Rattle.theory_tree.proofs.Nodes.{nodes-distinct, nth-inside, over-holds, own-below, parent-area, parent-below, parent-level, root-area, root-over}
+use Rattle.theory_tree.proofs.Nodes.{nodes-distinct, nth-inside, over-holds, own-below, parent-area, parent-below, parent-level, root-over}
 use Rattle.theory_tree.proofs.Nodes.{some-node}
 use Rattle.theorems.proofs.Plates.{darkest-root, plate-attribute, plate-nodes, plate-some}
-use Rattle.work_columns.specs.Columns.{Frame, Stored, col}
+use Rattle.work_columns.specs.Columns.{Frame, col}
 use Rattle.work_columns.specs.Layout.{ANCHOR, AREA, ATTRIBUTE, GREY, LEVEL, OWN, PARENT, VALUE, greysIn, touchIn}
 use Rattle.work_columns.specs.declared.Shape.{Shape}
 use Rattle.work_columns.proofs.Columns.{frame-room}
@@ -78,7 +77,8 @@ module _ {g : Shape} {f w : List ℕ} {count : ℕ} (t : Tree g f w count) where
 
   pub level-low : (i : ℕ) → i < count → col LEVEL n w i ≤ greatestGrey
   level-low i l =
-      omega (arith, t .level-is i l, t .pixels, t .plate .greys (nth xs i) (omega (arith, t .pixels, nth-inside tree-grid tree-nodes i (omega (arith, t .nodes)))))
+      let inside = nth-inside tree-grid tree-nodes i (omega (arith, t .nodes)) in
+      omega (arith, t .level-is i l, t .plate .greys (nth xs i) (omega (arith, t .pixels, inside)))
 
   pub level-rises : (i : ℕ) → 0 < i → i < count → col LEVEL n w (col PARENT n w i) < col LEVEL n w i
   level-rises i h l =
@@ -94,19 +94,6 @@ module _ {g : Shape} {f w : List ℕ} {count : ℕ} (t : Tree g f w count) where
   root-darkest = t .level-is 0 some-nodes ∙ sym (darkest-root (t .plate))
 
   -- ---- areas
-
-  pub area-whole : col AREA n w 0 ≡ n
-  area-whole = t .area-is 0 some-nodes ∙ root-area tree-grid tree-nodes
-
-  pub area-some : (i : ℕ) → i < count → 1 ≤ col AREA n w i
-  unfolding areaOf
-  area-some i l =
-      let b : i < length xs = omega (arith, t .nodes) in
-      omega (
-        arith,
-        t .area-is i l,
-        area-pos n (holds n (touchIn g) (grey f) xs i) (nth xs i) (nth-inside tree-grid tree-nodes i b) (anchor-holds tree-grid tree-nodes i b),
-      )
 
   area-most : (j : ℕ) → areaOf n (touchIn g) (grey f) xs j ≤ n
   unfolding areaOf

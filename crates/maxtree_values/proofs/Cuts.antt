@@ -1,11 +1,10 @@
 -- The climb to a node that qualifies, and the loop that gives each node its value in the cut.
 use mathlib.Core.Path.{_≡_, sym, ap, _∙_}
-use mathlib.Core.Bool.{Bool, true, false, not}
+use mathlib.Core.Bool.{Bool, true, false}
 use mathlib.Core.List.{List}
 use Prim.Native.Nat.{ℕ, zero, suc, _+_, _≤_, _<_}
 use native.Mathlib.Omega.{arith}
 use lib.Dec.{T, leb, leb→le, le→leb, nleb→lt}
-use lib.ListN.{length}
 use Rattle.meaning.specs.Cut.{cut}
 use Rattle.meaning.specs.Nodes.{holds}
 use Rattle.meaning.specs.Opening.{Criterion, atLeast, attribute, opened, openedAt}
@@ -137,7 +136,8 @@ module _ {g : Shape} {f w : List ℕ} {count limit : ℕ} where
       valued = valued-trans (a .valued) (valued-store s);
       tree = valued-tree (a .tree) (valued-store s);
       fits = a .fits;
-      values = column-more (value (a .tree) limit (a .fits)) s (omega (arith, few-nodes (a .tree))) (cut-value (a .tree) limit (a .fits) i l (a .values) c) (a .values);
+      values = column-more (value (a .tree) limit (a .fits)) s (omega (arith, few-nodes (a .tree)))
+          (cut-value (a .tree) limit (a .fits) i l (a .values) c) (a .values);
     }
 
     pub cutting-done : Tree g f w count → count ≤ i → ValuesAre (g .pixels) (cut (g .connectivity) (g .width) (g .height) limit f) w w′

@@ -67,7 +67,9 @@ pub fn write_cut_list(
     losses: &mut [u64],
     work: &mut [u32],
 ) -> CutListed
-    ensures { λ r. ⌜ WrittenCutListed connectivity width height limit (now (image .entry)) (now (bytes .entry)) (now (bytes .exit)) (now (out .entry)) (now (out .exit)) (now (counts .entry)) (now (counts .exit)) (now (losses .entry)) (now (losses .exit)) (now (work .entry)) (now (work .exit)) r ⌝ }
+    ensures { λ r. ⌜ WrittenCutListed connectivity width height limit (now (image .entry)) (now (bytes .entry)) (now (bytes .exit))
+        (now (out .entry)) (now (out .exit)) (now (counts .entry)) (now (counts .exit)) (now (losses .entry)) (now (losses .exit))
+        (now (work .entry)) (now (work .exit)) r ⌝ }
 {
     let early = early_refusal(
         connectivity,

@@ -1,21 +1,18 @@
 -- The cut of the numbered nodes by climbing: an opening's grey at p is that at its own node's anchor (cut-own), at a kept node it is the node's level
--- (cut-kept), and at another its parent's (cut-parent); node 0 is kept (cut-root). So one walk through the nodes, first to last, finds every node's grey.
-use mathlib.Core.Path.{_≡_, sym, _∙_}
-use mathlib.Core.Logic.{_⊎_, inl, inr}
+-- (cut-kept), and at another its parent's (cut-parent); node 0 is kept (cut-root). So a climb finds a node's grey.
+use mathlib.Core.Path.{_≡_, sym}
 use mathlib.Core.Bool.{Bool, true}
 use mathlib.Core.List.{List}
-use Prim.Native.Nat.{ℕ, zero, suc, _<_}
-use native.Mathlib.Omega.{arith}
+use Prim.Native.Nat.{ℕ, _<_}
 use lib.Dec.{T}
 use lib.ListN.{length}
 use Rattle.meaning.specs.Nodes.{holds, own, parent}
 use Rattle.meaning.specs.Opening.{Criterion, openedAt}
 use Rattle.meaning.specs.Paths.{Grid}
 use Rattle.meaning.specs.Sets.{nth}
-use Rattle.theory_lists.proofs.Tests.{choice}
 use Rattle.theory_tree.specs.Tree.{Nodes}
 use Rattle.theory_tree.proofs.Climb.{climb-kept, climb-parent, climb-same}
-use Rattle.theory_tree.proofs.Nodes.{over-holds, own-level, own-over, parent-below, parent-parent, root-over}
+use Rattle.theory_tree.proofs.Nodes.{over-holds, own-level, own-over, parent-parent, root-over}
 
 module _ {n : ℕ} {near : ℕ → ℕ → Bool} {keep : (ℕ → Bool) → Bool} (grid : Grid n near) (crit : Criterion n keep)
     {f : ℕ → ℕ} {xs : List ℕ} (nodes : Nodes n near f xs) where
@@ -33,24 +30,3 @@ module _ {n : ℕ} {near : ℕ → ℕ → Bool} {keep : (ℕ → Bool) → Bool
       → openedAt n near keep f (nth xs i) ≡ openedAt n near keep f (nth xs (parent n near f xs i))
   unfolding holds
   cut-parent i h l none = climb-parent grid crit f (nth xs i) (nth xs (parent n near f xs i)) (parent-parent grid nodes i h l) none
-
-  -- any list of values that follows these rules is the cut
-  pub cut-walk : (v : ℕ → ℕ)
-      → ((i : ℕ) → i < length xs → T (keep (holds n near f xs i)) → v i ≡ f (nth xs i))
-      → ((i : ℕ) → 0 < i → i < length xs → (T (keep (holds n near f xs i)) → ⊥) → v i ≡ v (parent n near f xs i))
-      → (k i : ℕ) → i < k → i < length xs → v i ≡ openedAt n near keep f (nth xs i)
-  cut-walk v on off zero i h l = absurd (omega arith)
-  cut-walk v on off (suc k) i h l = go (choice (keep (holds n near f xs i))) (cut-walk v on off k)
-    where
-      go : T (keep (holds n near f xs i)) ⊎ (T (keep (holds n near f xs i)) → ⊥)
-          → ((i : ℕ) → i < k → i < length xs → v i ≡ openedAt n near keep f (nth xs i))
-          → v i ≡ openedAt n near keep f (nth xs i)
-      go (inl t) ih = on i l t ∙ sym (cut-kept i t)
-      go (inr e) ih =
-          let pos : 0 < i = root-off i e in
-          let b = parent-below grid nodes i pos in
-          off i pos l e ∙ ih (parent n near f xs i) (omega arith) (omega arith) ∙ sym (cut-parent i pos l e)
-        where
-          root-off : (i : ℕ) → (T (keep (holds n near f xs i)) → ⊥) → 0 < i
-          root-off zero e = absurd (e cut-root)
-          root-off (suc i) e = omega arith

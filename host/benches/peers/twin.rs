@@ -431,6 +431,18 @@ pub fn write_values<const CHECKED: bool>(
     }
 }
 
+/// Gives each node its value in the cut at the limit: its level, or its parent's value where it is too small.
+pub fn cut_values<const CHECKED: bool>(work: &mut [u32], pixels: usize, count: usize, limit: u32) {
+    let mut columns = Columns::<CHECKED>::of(work, pixels);
+    for v in 0..count {
+        columns.flood_area[v] = if limit <= columns.area[v] {
+            columns.flood_parent[v]
+        } else {
+            columns.flood_area[columns.parent[v] as usize]
+        };
+    }
+}
+
 pub fn clean<const CHECKED: bool>(
     side: Side,
     image: Image,
@@ -440,14 +452,7 @@ pub fn clean<const CHECKED: bool>(
 ) {
     let (pixels, negated) = (image.greys.len(), side == Side::Dark);
     let count = plate_tree::<CHECKED>(image, negated, work);
-    let mut columns = Columns::<CHECKED>::of(work, pixels);
-    for v in 0..count {
-        columns.flood_area[v] = if limit <= columns.area[v] {
-            columns.flood_parent[v]
-        } else {
-            columns.flood_area[columns.parent[v] as usize]
-        };
-    }
+    cut_values::<CHECKED>(work, pixels, count, limit);
     write_values::<CHECKED>(work, pixels, negated, out);
     clear(work, pixels);
 }

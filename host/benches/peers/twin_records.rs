@@ -4,7 +4,7 @@
 
 use livukoe::lent::Image;
 
-use crate::twin::{build, clear, plate_tree, write_values, Columns};
+use crate::twin::{build, clear, cut_values, plate_tree, write_values, Columns};
 
 /// What the first fields say.
 #[derive(Clone, Copy)]
@@ -168,15 +168,7 @@ pub fn read_record<const CHECKED: bool>(bytes: &[u8], out: &mut [u8], work: &mut
 
 pub fn cut_record<const CHECKED: bool>(bytes: &[u8], limit: u32, out: &mut [u8], work: &mut [u32]) {
     let (head, count) = read_tree::<CHECKED>(bytes, work);
-    let mut columns = Columns::<CHECKED>::of(work, head.pixels());
-    for i in 0..count {
-        let mut node = i;
-        while columns.area[node] < limit {
-            node = columns.parent[node] as usize;
-        }
-        columns.parent[i] = node as u32;
-        columns.flood_area[i] = columns.flood_parent[node];
-    }
+    cut_values::<CHECKED>(work, head.pixels(), count, limit);
     write_values::<CHECKED>(work, head.pixels(), false, out);
     clear(work, head.pixels());
 }
@@ -191,10 +183,10 @@ pub fn size_list<const CHECKED: bool>(
     let places = head.pixels() - 1;
     let columns = Columns::<CHECKED>::of(work, head.pixels());
     counts[..places].fill(0);
+    losses[..places].fill(0);
     for i in 1..count {
         counts[columns.area[i] as usize - 1] += 1;
     }
-    losses[..places].fill(0);
     for i in 1..count {
         let below = columns.flood_parent[columns.parent[i] as usize];
         let loss = u64::from(columns.area[i]) * u64::from(columns.flood_parent[i] - below);

@@ -3,7 +3,6 @@ use Prim.Native.Nat.{_-_, _≤_}
 use native.Mathlib.Omega.{arith}
 use Rattle.maxtree_values.proofs.mark_leaves.Statement.{statement}
 use Rattle.maxtree_values.proofs.mark_leaves.Tie as tie
-use Rattle.work_columns.specs.Layout.{greysIn}
 use Rattle.maxtree_columns.specs.Tree.{TreeStands}
 use Rattle.maxtree_columns.proofs.Tree.{few-nodes, parent-earlier, some-nodes, tree-here}
 use Rattle.maxtree_values.proofs.Values.{valued-store, valued-tree}
@@ -33,8 +32,9 @@ put-requires : tie.Need-put-requires Inv-loop μ-loop
 put-requires c κs =
     let l = c .before .before .before .before .loop in
     let t = l .inv .1 in
-    let b = parent-earlier t (l .i) (l .inv .2 .first) (c .before .before .before .loop-test .taken) in
-    (t .room, (omega arith, (omega (arith, c .before .get .ensures .0, few-nodes t, c .before .before .before .loop-test .taken), omega arith)))
+    let taken = c .before .before .before .loop-test .taken in
+    let b = parent-earlier t (l .i) (l .inv .2 .first) taken in
+    (t .room, (omega arith, (omega (arith, c .before .get .ensures .0, few-nodes t, taken), omega arith)))
 
 add-i : tie.Need-add-i Inv-loop μ-loop
 add-i c =
@@ -59,8 +59,8 @@ same-length c =
 
 returns : tie.Need-returns Inv-loop μ-loop
 returns c =
-    marking-done (c .before .before .before .before .before .before .before .pre) (c .before .before .before .before .set-ones .ensures) (c .before .loop .inv .2)
-    (c .loop-test .left) (c .before .loop .inv .0)
+    let o = c .before .before .before .before in
+    marking-done (o .before .before .before .pre) (o .set-ones .ensures) (c .before .loop .inv .2) (c .loop-test .left) (c .before .loop .inv .0)
 
 pub mark-leaves-spec : {M : Type 1} → statement M
 mark-leaves-spec =

@@ -35,7 +35,8 @@ loop-again : tie.Need-loop-again Inv-loop μ-loop
 loop-again c =
     let l = c .before .before .before .before .before in
     let s = l .before .before .before in
-    listing-more ones (l .loop .inv) (c .before .before .before .before .loop-test .taken) (c .before .before .count-node .kept .1 .1 .1 .1 .0) (c .before .before .count-node .ensures)
+    listing-more ones (l .loop .inv)
+    (c .before .before .before .before .loop-test .taken) (c .before .before .count-node .kept .1 .1 .1 .1 .0) (c .before .before .count-node .ensures)
 
 same-length : tie.Need-same-length Inv-loop μ-loop
 same-length c = c .before .loop .inv .len

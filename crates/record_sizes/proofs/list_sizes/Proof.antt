@@ -33,7 +33,8 @@ count-nodes-requires : tie.Need-count-nodes-requires
 count-nodes-requires c κs =
     let t = c .before .before .before .before .before in
     let s = start t in
-    (s .pre .0, tallying-zero (s .pre .0) ones (now (s .args .counts)) (t .clear-tables .ensures .0) (omega (arith, s .pre .1 .counts-fit, t .clear-tables .kept .0)))
+    let places = t .clear-tables .kept .0 in
+    (s .pre .0, tallying-zero (s .pre .0) ones (now (s .args .counts)) (t .clear-tables .ensures .0) (omega (arith, s .pre .1 .counts-fit, places)))
 
 sum-losses-requires : tie.Need-sum-losses-requires
 sum-losses-requires c κs =

@@ -36,7 +36,8 @@ loop-again : tie.Need-loop-again Inv-loop μ-loop
 loop-again c =
     let l = c .before .before .before .before .before in
     let s = l .before .before .before in
-    listing-more (lossOf (s .args .g .pixels) (now (s .args .w))) (l .loop .inv) (c .before .before .before .before .loop-test .taken) (c .before .before .add-loss .kept .1 .1 .1 .1 .0) (c .before .before .add-loss .ensures)
+    listing-more (lossOf (s .args .g .pixels) (now (s .args .w))) (l .loop .inv)
+    (c .before .before .before .before .loop-test .taken) (c .before .before .add-loss .kept .1 .1 .1 .1 .0) (c .before .before .add-loss .ensures)
 
 same-length : tie.Need-same-length Inv-loop μ-loop
 same-length c = c .before .loop .inv .len
