@@ -80,6 +80,7 @@ reference:
 
 # what `make bench` compares with, on Debian; without them it leaves them out
 peers:
+	apt-get update
 	apt-get install --yes --no-install-recommends python3-skimage libinsighttoolkit5-dev g++
 
 # writes docs/BENCHMARKS.md and docs/benchmarks.svg
