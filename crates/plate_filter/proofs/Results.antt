@@ -3,7 +3,7 @@
 use mathlib.Core.Path.{_≡_, refl, sym, ap, _∙_}
 use mathlib.Core.Bool.{Bool, true, false}
 use mathlib.Core.List.{List}
-use Prim.Native.Nat.{ℕ, _*_, _≤_, _<_}
+use Prim.Native.Nat.{ℕ, _≤_, _<_}
 use native.Mathlib.Omega.{arith}
 use lib.Dec.{eqb}
 use lib.ListN.{length}
@@ -23,8 +23,7 @@ use Rattle.maxtree_columns.specs.Tree.{Tree, nodesIn}
 use Rattle.maxtree_columns.proofs.Tree.{tree-plate}
 use Rattle.maxtree_values.specs.Values.{Delivered, ValuesAre, Writable, valuesIn}
 use Rattle.plate_greys.specs.Sides.{sidePlate}
-use Rattle.plate_refusals.proofs.Refusals.{Taken, plate-later}
-use Rattle.plate_tree.specs.PlateTree.{PlateReady, PlateTree}
+use Rattle.plate_tree.specs.PlateTree.{PlateTree}
 use Rattle.plate_tree.proofs.Building.{cleared-space}
 use Rattle.plate_filter.specs.Operations.{PlateAnswered, column}
 
@@ -58,9 +57,6 @@ listed {g} {f} {w} {count} t c of e =
 -- ---- from the plate to the answer, with the shape g that it was given
 
 module _ {g : Shape} (k w h : ℕ) (f : List ℕ) (shape : g ≡ shapeOf (length f) w h k) where
-  pub ready : {work : List ℕ} → Taken k w h f → 8 * (w * h) ≤ length work → PlateReady g f work
-  ready taken space = rw shape (record { taken = plate-later taken (λ _. 0); pixels = refl; room = omega (arith, taken .long) })
-
   pub pixels-are : g .pixels ≡ length f
   pixels-are = ap (λ (s : Shape). s .pixels) shape
 

@@ -2,22 +2,27 @@
 use mathlib.Core.Path.{_≡_, refl, sym, _∙_}
 use mathlib.Core.Bool.{Bool, true}
 use mathlib.Core.List.{List, _++_}
-use Prim.Native.Nat.{ℕ, _*_}
+use Prim.Native.Nat.{ℕ, _*_, _≤_}
 use native.Mathlib.Omega.{arith}
 use lib.ListN.{length, drop, replicate}
 use Rattle.meaning.specs.Answers.{workAfter}
 use Rattle.meaning.specs.Plate.{Plate}
 use Rattle.work_columns.specs.Columns.{Frame, Room}
-use Rattle.work_columns.specs.Layout.{Buildable, greysIn}
+use Rattle.work_columns.specs.Layout.{Buildable, greysIn, shapeOf}
 use Rattle.work_columns.specs.declared.Shape.{Shape}
 use Rattle.work_columns.proofs.Columns.{cleared, frame-room, frame-trans}
 use Rattle.maxtree_columns.specs.Tree.{Built}
 use Rattle.maxtree_columns.proofs.Greys.{greys-plate}
-use Rattle.plate_refusals.proofs.Refusals.{Taken, plate-taken, taken-few}
+use Rattle.plate_refusals.proofs.Refusals.{Taken, plate-later, plate-taken, taken-few}
 use Rattle.plate_greys.specs.Loading.{Loaded}
 use Rattle.plate_greys.specs.Sides.{sidePlate}
 use Rattle.plate_greys.proofs.Sides.{side-plate-length}
 use Rattle.plate_tree.specs.PlateTree.{PlateReady, PlateTree}
+
+-- a plate that is not refused, with its space and its shape
+pub plate-ready : {g : Shape} {k w h : ℕ} {f work : List ℕ} → g ≡ shapeOf (length f) w h k → Taken k w h f → 8 * (w * h) ≤ length work
+    → PlateReady g f work
+plate-ready shape taken space = rw shape (record { taken = plate-later taken (λ _. 0); pixels = refl; room = omega (arith, taken .long) })
 
 module _ {g : Shape} {f work : List ℕ} (can : PlateReady g f work) where
   taken : Taken (g .connectivity) (g .width) (g .height) f

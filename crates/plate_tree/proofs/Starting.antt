@@ -9,14 +9,14 @@ use lib.ListN.{length, drop, replicate}
 use borrow.Author.Tests.{ne-eqb}
 use Rattle.meaning.specs.Answers.{outRefusal, plateRefusal, workRefusal}
 use Rattle.meaning.specs.Nodes.{nodesOf}
-use Rattle.plate_refusals.proofs.Refusals.{Listable, out-met, out-none, plate-later, tree-early, tree-first, tree-later, tree-none}
+use Rattle.plate_refusals.proofs.Refusals.{Listable, out-met, out-none, tree-early, tree-first, tree-later, tree-none}
 use Rattle.work_columns.specs.Columns.{Room}
 use Rattle.work_columns.specs.Layout.{shapeOf}
 use Rattle.work_columns.specs.declared.Shape.{Shape}
 use Rattle.maxtree_columns.proofs.Tree.{few-nodes}
 use Rattle.plate_tree.specs.PlateTree.{PlateReady, PlateTree}
 use Rattle.plate_tree.specs.Listing.{ListAnswered, Started, nodeListRefusal}
-use Rattle.plate_tree.proofs.Building.{cleared-space}
+use Rattle.plate_tree.proofs.Building.{cleared-space, plate-ready}
 
 -- r: what was found to be the refusal by 1, 2, 3 and 6
 module _ (k w h : ℕ) (f work : List ℕ) (places : ℕ) {r : ℕ} (e : r ≡ plateRefusal k w h f (workRefusal (w * h) (length work) 0)) where
@@ -40,8 +40,7 @@ module _ (k w h : ℕ) (f work : List ℕ) (places : ℕ) {r : ℕ} (e : r ≡ p
 
     module _ {g : Shape} (shape : g ≡ shapeOf (length f) w h k) where
       pub started-ready : PlateReady g f work
-      started-ready =
-          rw shape (record { taken = plate-later (listable .taken) (λ _. 0); pixels = refl; room = omega (arith, listable .taken .long, listable .space) })
+      started-ready = plate-ready shape (listable .taken) (listable .space)
 
       module _ {w₁ : List ℕ} {count : ℕ} (stood : PlateTree false g f work w₁ count) where
         p : PlateTree false (shapeOf (length f) w h k) f work w₁ count

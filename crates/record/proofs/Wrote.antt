@@ -1,21 +1,21 @@
 -- What writing a record leaves: on a refusal, and with the record written.
-use mathlib.Core.Path.{_≡_, refl, sym, ap, _∙_}
+use mathlib.Core.Path.{_≡_, sym, ap, _∙_}
 use mathlib.Core.Bool.{true, false}
 use mathlib.Core.List.{List, _++_}
 use Prim.Native.Nat.{ℕ, _*_}
-use native.Mathlib.Omega.{arith}
 use lib.Dec.{eqb}
 use lib.ListN.{length, drop, replicate}
 use borrow.Author.Tests.{ne-eqb}
 use Rattle.meaning.specs.Answers.{outRefusal, over, plateRefusal, workAfter, workRefusal}
 use Rattle.meaning.specs.Record.{recordOf}
-use Rattle.plate_refusals.proofs.Refusals.{Listable, out-met, plate-later, tree-early, tree-first, tree-later}
+use Rattle.plate_refusals.proofs.Refusals.{Listable, out-met, tree-early, tree-first, tree-later}
 use Rattle.work_columns.specs.Columns.{Room}
 use Rattle.work_columns.specs.Layout.{greysIn, shapeOf}
 use Rattle.work_columns.specs.declared.Shape.{Shape}
 use Rattle.work_columns.proofs.Columns.{cleared}
 use Rattle.maxtree_columns.proofs.Tree.{tree-plate}
 use Rattle.plate_tree.specs.PlateTree.{PlateReady, PlateTree}
+use Rattle.plate_tree.proofs.Building.{plate-ready}
 use Rattle.record.specs.Writing.{WrittenRecord, writeAnswer, writeOut, writeRefusal, writeWork}
 
 -- a refusal by 1, 2, 3 or 6
@@ -32,8 +32,7 @@ wrote-refused k w h f out work {r} e x =
 module _ {g : Shape} {k w h : ℕ} (f work : List ℕ) (listable : Listable k w h f (length work)) (shape : g ≡ shapeOf (length f) w h k) where
   -- the tree can be made
   pub wrote-ready : PlateReady g f work
-  wrote-ready =
-      rw shape (record { taken = plate-later (listable .taken) (λ _. 0); pixels = refl; room = omega (arith, listable .taken .long, listable .space) })
+  wrote-ready = plate-ready shape (listable .taken) (listable .space)
 
   refusal-is : (out : List ℕ) → writeRefusal k w h f out work ≡ outRefusal (length (recordOf k w h f)) (length out) 0
   unfolding writeRefusal

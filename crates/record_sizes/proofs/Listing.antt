@@ -44,20 +44,19 @@ zeroed-more {d₀} {d} {i} z l = record { same = length-set d i 0 ∙ z .same; m
 pub zeroed-done : {d₀ d : List ℕ} {i : ℕ} (m : ℕ) → Zeroed d₀ d i → i ≡ m → d ≡ over (zeros m) d₀
 zeroed-done {d₀} m z e = z .made ∙ rw e (written-over m (λ (j : ℕ). 0) d₀)
 
+-- what is written over a table again
+over-again : (m : ℕ) (g h : ℕ → ℕ) (d t : List ℕ) → t ≡ over (table m g) d → over (table m h) t ≡ over (table m h) d
+over-again m g h d t e =
+    sym (written-over m h t) ∙ ap (λ (l : List ℕ). table m h ++ l) (ap (drop m) e ∙ over-drop m g d) ∙ written-over m h d
+
 -- what is written over zeros is written over what they stand in place of
 pub over-zeros : (d : List ℕ) {d₁ : List ℕ} (m : ℕ) (g : ℕ → ℕ) → d₁ ≡ over (zeros m) d → over (table m g) d₁ ≡ over (table m g) d
-over-zeros d {d₁} m g e =
-    sym (written-over m g d₁) ∙ ap (λ (l : List ℕ). table m g ++ l) (ap (drop m) e ∙ over-drop m (λ (j : ℕ). 0) d) ∙ written-over m g d
+over-zeros d {d₁} m g e = over-again m (λ (j : ℕ). 0) g d d₁ e
 
 pub zeros-there : (d : List ℕ) {d₁ : List ℕ} (m : ℕ) → d₁ ≡ over (zeros m) d → d₁ ≡ over (zeros m) d₁
 zeros-there d m e = e ∙ sym (over-zeros d m (λ (j : ℕ). 0) e)
 
 -- ---- the tables filled
-
--- what is written over a table again
-over-again : (m : ℕ) (g h : ℕ → ℕ) (d t : List ℕ) → t ≡ over (table m g) d → over (table m h) t ≡ over (table m h) d
-over-again m g h d t e =
-    sym (written-over m h t) ∙ ap (λ (l : List ℕ). table m h ++ l) (ap (drop m) e ∙ over-drop m g d) ∙ written-over m h d
 
 -- from the entries that are read
 module _ (n : ℕ) (w : List ℕ) (j : ℕ) {p a l b : ℕ} (ep : p ≡ col PARENT n w j) (ea : a ≡ col AREA n w j) (el : l ≡ col LEVEL n w j)

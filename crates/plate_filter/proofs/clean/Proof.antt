@@ -9,7 +9,8 @@ use Rattle.plate_filter.proofs.clean.Statement.{statement}
 use Rattle.plate_filter.proofs.clean.Tie as tie
 use Rattle.maxtree_columns.proofs.Tree.{tree-here}
 use Rattle.plate_refusals.proofs.Refusals.{Filterable, clean-none}
-use Rattle.plate_filter.proofs.Results.{answered, answered-refused, cleaned-is, pixels-are, ready, written-able}
+use Rattle.plate_tree.proofs.Building.{plate-ready}
+use Rattle.plate_filter.proofs.Results.{answered, answered-refused, cleaned-is, pixels-are, written-able}
 
 clean-refusal-requires : tie.Need-clean-refusal-requires
 clean-refusal-requires c κs = search needs
@@ -34,10 +35,8 @@ shape-of-requires c κs = search needs
 
 plate-tree-requires : tie.Need-plate-tree-requires
 plate-tree-requires c κs =
-    let e = c .before .before in
-    let s = e .before .before .before .before .before .args in
-    let z = sized e in
-    ready (s .connectivity) (s .width) (s .height) (now (s .image)) (c .before .shape-of .ensures) (z .taken) (z .space)
+    let z = sized (c .before .before) in
+    plate-ready (c .before .shape-of .ensures) (z .taken) (z .space)
 
 cut-values-requires : tie.Need-cut-values-requires
 cut-values-requires c κs =

@@ -8,7 +8,8 @@ use Rattle.plate_filter.proofs.regional_maxima.Statement.{statement}
 use Rattle.plate_filter.proofs.regional_maxima.Tie as tie
 use Rattle.maxtree_columns.proofs.Tree.{tree-here}
 use Rattle.plate_refusals.proofs.Refusals.{Markable, maxima-none}
-use Rattle.plate_filter.proofs.Results.{answered, answered-refused, marks-are, ready, written-able}
+use Rattle.plate_tree.proofs.Building.{plate-ready}
+use Rattle.plate_filter.proofs.Results.{answered, answered-refused, marks-are, written-able}
 
 maxima-refusal-requires : tie.Need-maxima-refusal-requires
 maxima-refusal-requires c κs = search needs
@@ -30,10 +31,8 @@ shape-of-requires c κs = search needs
 
 plate-tree-requires : tie.Need-plate-tree-requires
 plate-tree-requires c κs =
-    let e = c .before .before in
-    let s = e .before .before .before .before .before .args in
-    let z = sized e in
-    ready (s .connectivity) (s .width) (s .height) (now (s .image)) (c .before .shape-of .ensures) (z .taken) (z .space)
+    let z = sized (c .before .before) in
+    plate-ready (c .before .shape-of .ensures) (z .taken) (z .space)
 
 mark-leaves-requires : tie.Need-mark-leaves-requires
 mark-leaves-requires c κs = tree-here (c .before .before .before .plate-tree .ensures .tree)
