@@ -1,21 +1,20 @@
 -- the examples and the slips of SPECIFICATION 10, computed from the definitions.
 use mathlib.Core.Path.{_≡_, refl}
-use mathlib.Core.Bool.{true}
-use mathlib.Core.List.{List, [], _∷_, map}
-use Prim.Native.Nat.{ℕ, zero, suc, _-_, _*_}
-use native.Mathlib.Omega.{arith}
+use mathlib.Core.Bool.{Bool, true, false}
+use mathlib.Core.List.{List, [], _∷_, _++_, map}
+use Prim.Native.Nat.{ℕ, _-_, _*_}
 use lib.Dec.{ltb}
-use lib.ListN.{drop}
+use lib.ListN.{drop, set, take}
 use Rattle.meaning.specs.Sets.{area, table}
-use Rattle.meaning.specs.Plate.{greatestGrey, negative, apart}
-use Rattle.meaning.specs.Opening.{opened, cleaned, lightSide, darkSide, atLeast, attribute}
+use Rattle.meaning.specs.Plate.{greatestGrey, negative, apart, onTrimEdge}
+use Rattle.meaning.specs.Opening.{opened, cleaned, lightSide, darkSide, atLeast, attribute, reaches}
 use Rattle.meaning.specs.Maxima.{marks}
 use Rattle.meaning.specs.Nodes.{nodesOf}
-use Rattle.meaning.specs.Cut.{cut, counts, losses, total, darkest}
+use Rattle.meaning.specs.Cut.{cut, counts, losses, held, total, darkest}
 use Rattle.meaning.specs.Record.{recordOf, encode}
 use Rattle.meaning.specs.Ink.{rounded, inkOf}
 use Rattle.meaning.specs.Answers.{cleanRefusal, filterRefusal, maximaRefusal, treeRefusal}
-use Rattle.meaning.specs.Examples.{small, run, workedCases, Case, diagonals, edges, neighbours, steps, places}
+use Rattle.meaning.specs.Examples.{small, pair, run, workedCases, Case, diagonals, edges, neighbours, steps, places, borders, byCorner, trimEdge}
 
 -- every worked case of SPECIFICATION 10
 pub marked-hold : map (λ (c : Case). run (c .job)) workedCases ≡ map (λ (c : Case). c .answer) workedCases
@@ -33,24 +32,24 @@ pub groups-300 : encode (300 ∷ 127 ∷ 128 ∷ 4294967295 ∷ []) ≡ 172 ∷ 
 unfolding encode
 groups-300 = refl
 
--- its size list is what sizelist prints: 2 nodes of area 1 lose 100, 1 node of area 2 loses 40; the darkest grey is 10
-pub small-counts : counts 4 4 3 small ≡ 2 ∷ 1 ∷ 0 ∷ 0 ∷ 0 ∷ 0 ∷ 0 ∷ 0 ∷ 0 ∷ 0 ∷ 0 ∷ []
+-- its size list is what sizelist prints: off the trim edge 1 node of area 1 loses 20, 1 node of area 2 loses 40; 80 are held, and the darkest grey is 10
+pub small-counts : counts 4 4 3 small ≡ 1 ∷ 1 ∷ 0 ∷ 0 ∷ 0 ∷ 0 ∷ 0 ∷ 0 ∷ 0 ∷ 0 ∷ 0 ∷ []
 unfolding counts
 small-counts = refl
 
-pub small-losses : losses 4 4 3 small ≡ 100 ∷ 40 ∷ 0 ∷ 0 ∷ 0 ∷ 0 ∷ 0 ∷ 0 ∷ 0 ∷ 0 ∷ 0 ∷ []
+pub small-losses : losses 4 4 3 small ≡ 20 ∷ 40 ∷ 0 ∷ 0 ∷ 0 ∷ 0 ∷ 0 ∷ 0 ∷ 0 ∷ 0 ∷ 0 ∷ []
 unfolding losses
 small-losses = refl
 
-pub small-figures : total small ∷ darkest small ∷ [] ≡ 260 ∷ 10 ∷ []
-unfolding total darkest
+pub small-figures : total small ∷ held 4 4 3 small ∷ darkest small ∷ [] ≡ 260 ∷ 80 ∷ 10 ∷ []
+unfolding total held darkest
 small-figures = refl
 
 pub small-marks : marks 4 4 small ≡ 0 ∷ 0 ∷ 0 ∷ 0 ∷ 0 ∷ 1 ∷ 0 ∷ 0 ∷ 0 ∷ 0 ∷ 0 ∷ 1 ∷ []
 unfolding marks
 small-marks = refl
 
-pub small-cut : cut 4 4 3 2 small ≡ 10 ∷ 10 ∷ 10 ∷ 10 ∷ 10 ∷ 30 ∷ 30 ∷ 10 ∷ 10 ∷ 10 ∷ 10 ∷ 10 ∷ []
+pub small-cut : cut 4 4 3 2 small ≡ pair
 unfolding cut
 small-cut = refl
 
@@ -75,8 +74,13 @@ pub corner-six : neighbours 6 2 ∷ neighbours 6 6 ∷ []
 unfolding neighbours
 corner-six = refl
 
+-- the pixels off the trim edge of seven columns and four rows
+abbrev inner : List ℕ → List ℕ
+inner f = take 5 (drop 8 f) ++ take 5 (drop 15 f)
+
 -- cleaned at limit 2, and its regional maxima marked, the plate with a pair on each diagonal differs with 4, 6 and 8
-pub diagonals-cleaned : cleaned lightSide 4 5 2 2 diagonals ∷ cleaned lightSide 6 5 2 2 diagonals ∷ cleaned lightSide 8 5 2 2 diagonals ∷ []
+pub diagonals-cleaned : inner (cleaned lightSide 4 7 4 2 diagonals) ∷ inner (cleaned lightSide 6 7 4 2 diagonals)
+    ∷ inner (cleaned lightSide 8 7 4 2 diagonals) ∷ []
     ≡ (0 ∷ 0 ∷ 0 ∷ 0 ∷ 0 ∷ 0 ∷ 0 ∷ 0 ∷ 0 ∷ 0 ∷ [])
     ∷ (8 ∷ 0 ∷ 0 ∷ 0 ∷ 0 ∷ 0 ∷ 8 ∷ 0 ∷ 0 ∷ 0 ∷ [])
     ∷ (8 ∷ 0 ∷ 0 ∷ 0 ∷ 8 ∷ 0 ∷ 8 ∷ 0 ∷ 8 ∷ 0 ∷ [])
@@ -84,7 +88,7 @@ pub diagonals-cleaned : cleaned lightSide 4 5 2 2 diagonals ∷ cleaned lightSid
 unfolding cleaned
 diagonals-cleaned = refl
 
-pub diagonals-marks : marks 4 5 diagonals ∷ marks 6 5 diagonals ∷ marks 8 5 diagonals ∷ []
+pub diagonals-marks : inner (marks 4 7 diagonals) ∷ inner (marks 6 7 diagonals) ∷ inner (marks 8 7 diagonals) ∷ []
     ≡ (1 ∷ 0 ∷ 0 ∷ 0 ∷ 1 ∷ 0 ∷ 1 ∷ 0 ∷ 1 ∷ 0 ∷ [])
     ∷ (1 ∷ 0 ∷ 0 ∷ 0 ∷ 1 ∷ 0 ∷ 0 ∷ 0 ∷ 1 ∷ 0 ∷ [])
     ∷ (1 ∷ 0 ∷ 0 ∷ 0 ∷ 1 ∷ 0 ∷ 0 ∷ 0 ∷ 0 ∷ 0 ∷ [])
@@ -93,36 +97,56 @@ unfolding marks
 diagonals-marks = refl
 
 -- the dark side on the negative
-pub diagonals-dark : cleaned darkSide 6 5 2 2 (negative diagonals) ≡ negative (cleaned lightSide 6 5 2 2 diagonals)
+pub diagonals-dark : cleaned darkSide 6 7 4 2 (negative diagonals) ≡ negative (cleaned lightSide 6 7 4 2 diagonals)
 unfolding cleaned negative
 diagonals-dark = refl
 
 -- ---- the slips
 
--- nothing wraps round an edge, with 4, 6 or 8
-pub no-wrap : opened 4 3 2 2 edges ∷ opened 6 3 2 2 edges ∷ opened 8 3 2 2 edges ∷ []
-    ≡ (0 ∷ 0 ∷ 0 ∷ 0 ∷ 0 ∷ 0 ∷ []) ∷ (0 ∷ 0 ∷ 0 ∷ 0 ∷ 0 ∷ 0 ∷ []) ∷ (0 ∷ 0 ∷ 0 ∷ 0 ∷ 0 ∷ 0 ∷ []) ∷ []
-unfolding opened
+-- nothing wraps round an edge, with 4, 6 or 8: the two light pixels are two nodes
+pub no-wrap : nodesOf 4 3 edges ∷ nodesOf 6 3 edges ∷ nodesOf 8 3 edges ∷ []
+    ≡ (0 ∷ 2 ∷ 3 ∷ []) ∷ (0 ∷ 2 ∷ 3 ∷ []) ∷ (0 ∷ 2 ∷ 3 ∷ []) ∷ []
+unfolding nodesOf
 no-wrap = refl
 
 -- a maximum sinks as far as it must
-pub sinks-on : opened 4 5 1 3 steps ∷ opened 4 5 1 4 steps ∷ [] ≡ (10 ∷ 30 ∷ 30 ∷ 30 ∷ 10 ∷ []) ∷ (10 ∷ 10 ∷ 10 ∷ 10 ∷ 10 ∷ []) ∷ []
+pub sinks-on : take 5 (drop 8 (opened 4 7 3 3 steps)) ∷ take 5 (drop 8 (opened 4 7 3 4 steps)) ∷ []
+    ≡ (10 ∷ 30 ∷ 30 ∷ 30 ∷ 10 ∷ []) ∷ (10 ∷ 10 ∷ 10 ∷ 10 ∷ 10 ∷ []) ∷ []
 unfolding opened
 sinks-on = refl
 
 -- parts of one grey in several places are several nodes
-pub apart-nodes : nodesOf 4 5 places ≡ 1 ∷ 0 ∷ 2 ∷ 4 ∷ []
+pub apart-nodes : nodesOf 4 7 places ≡ 0 ∷ 8 ∷ 10 ∷ 12 ∷ []
 unfolding nodesOf
 apart-nodes = refl
 
-whole : (n : ℕ) → area n (λ (q : ℕ). true) ≡ n
-unfolding area
-whole zero = refl
-whole (suc n) = omega (arith, whole n)
+-- a patch of 65,536 pixels off the trim edge qualifies at the limit 65,536, and not at 65,537
+pub large-patch : (w h : ℕ) (s : ℕ → Bool) → reaches (w * h) (onTrimEdge w h) s ≡ false → area (w * h) s ≡ 65536
+    → atLeast (attribute w h) 65536 s ∷ atLeast (attribute w h) 65537 s ∷ [] ≡ true ∷ false ∷ []
+large-patch w h s off e = rw (off, e)
 
--- a patch of 65,536 pixels qualifies at the limit 65,536
-pub large-patch : atLeast (attribute 256 256) 65536 (λ (q : ℕ). true) ≡ true
-large-patch = rw (whole 65536)
+-- ---- the trim edge
+
+pub trim-edges : trimEdge 4 3 ∷ trimEdge 1 2 ∷ trimEdge 3 1 ∷ []
+    ≡ (1 ∷ 1 ∷ 1 ∷ 1 ∷ 1 ∷ 0 ∷ 0 ∷ 1 ∷ 1 ∷ 1 ∷ 1 ∷ 1 ∷ []) ∷ (1 ∷ 1 ∷ []) ∷ (1 ∷ 1 ∷ 1 ∷ []) ∷ []
+unfolding trimEdge
+trim-edges = refl
+
+-- a patch on any border of the sheet stays, light or dark; the one in the middle goes
+pub borders-stay : cleaned lightSide 4 5 5 25 borders ∷ cleaned darkSide 4 5 5 2 (negative borders) ∷ [] ≡ set borders 12 0 ∷ negative (set borders 12 0) ∷ []
+unfolding cleaned negative
+borders-stay = refl
+
+-- a pixel off the edge that has one of the edge at its corner reaches it only where corners touch
+pub corner-reaches : cleaned lightSide 4 4 4 2 byCorner ∷ cleaned lightSide 6 4 4 2 byCorner ∷ [] ≡ set byCorner 9 0 ∷ byCorner ∷ []
+unfolding cleaned
+corner-reaches = refl
+
+-- nodes on the edge are not counted, and lose nothing
+pub borders-listed : take 3 (counts 4 5 5 borders) ∷ take 3 (losses 4 5 5 borders) ∷ (held 4 5 5 borders ∷ []) ∷ []
+    ≡ (1 ∷ 0 ∷ 0 ∷ []) ∷ (9 ∷ 0 ∷ 0 ∷ []) ∷ (36 ∷ []) ∷ []
+unfolding counts losses held
+borders-listed = refl
 
 -- ---- ink and refusals
 

@@ -1,12 +1,12 @@
 -- The cut of a plate's tree at a limit, total and darkest grey, and the size list (pattern spectrum).
 use mathlib.Core.Bool.{Bool, _&&_}
 use mathlib.Core.List.{List}
-use Prim.Native.Nat.{ℕ, suc, _-_}
+use Prim.Native.Nat.{ℕ, suc, _-_, _*_}
 use lib.Dec.{eqb}
 use lib.ListN.{length}
 use Rattle.meaning.specs.Sets.{pick, area, sum, most, lowest, table, elem}
-use Rattle.meaning.specs.Plate.{greatestGrey, touch, grey}
-use Rattle.meaning.specs.Opening.{atLeast, attribute}
+use Rattle.meaning.specs.Plate.{greatestGrey, touch, grey, onTrimEdge}
+use Rattle.meaning.specs.Opening.{atLeast, attribute, reaches}
 use Rattle.meaning.specs.Nodes.{levelOf, holds, nodesOf}
 
 -- ---- a tree whose nodes are those of the anchors xs
@@ -32,7 +32,7 @@ module _ (n : ℕ) (near : ℕ → ℕ → Bool) (f : ℕ → ℕ) (xs : List �
 
 -- the cut of a plate's tree at a limit
 unfoldable pub cut : ℕ → ℕ → ℕ → ℕ → List ℕ → List ℕ
-unfolding cutAt table touch nodesOf area
+unfolding cutAt table touch nodesOf area reaches onTrimEdge
 cut k w h limit f = table (length f) (cutAt (length f) (touch k w) (grey f) (nodesOf k w f) (atLeast (attribute w h) limit))
 
 -- a plate's total grey
@@ -45,12 +45,18 @@ unfoldable pub darkest : List ℕ → ℕ
 unfolding lowest
 darkest f = lowest (suc greatestGrey) (elem f)
 
--- the size list: for each area from 1 to pixels - 1 the number of nodes of that area
+-- the size list: for each area from 1 to pixels - 1 the number of nodes off the trim edge of that area; one on the edge has all the pixels for its
+-- attribute (crate theorems, 7)
 unfoldable pub counts : ℕ → ℕ → ℕ → List ℕ → List ℕ
-unfolding countAt table touch nodesOf area
+unfolding countAt table touch nodesOf area reaches onTrimEdge
 counts k w h f = table (length f - 1) (λ (i : ℕ). countAt (length f) (touch k w) (grey f) (nodesOf k w f) (attribute w h) (suc i))
 
--- and the grey lost at that area
+-- the grey lost at that area
 unfoldable pub losses : ℕ → ℕ → ℕ → List ℕ → List ℕ
-unfolding lostAt table touch nodesOf area
+unfolding lostAt table touch nodesOf area reaches onTrimEdge
 losses k w h f = table (length f - 1) (λ (i : ℕ). lostAt (length f) (touch k w) (grey f) (nodesOf k w f) (attribute w h) (suc i))
+
+-- and the grey held on the trim edge: the total grey of the cut at the full limit, less the darkest grey times the pixels
+unfoldable pub held : ℕ → ℕ → ℕ → List ℕ → ℕ
+unfolding total cut darkest
+held k w h f = total (cut k w h (w * h) f) - darkest f * (w * h)

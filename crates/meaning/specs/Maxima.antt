@@ -1,13 +1,14 @@
 -- Flat zones and regional maxima.
+use mathlib.Core.Logic.{_⊎_}
 use mathlib.Core.Bool.{Bool, not, _&&_}
 use mathlib.Core.List.{List}
 use Prim.Native.Nat.{ℕ, _≤_, _<_}
 use lib.Dec.{T, leb, eqb}
 use lib.ListN.{length}
-use Rattle.meaning.specs.Sets.{bit, some, table, has}
+use Rattle.meaning.specs.Sets.{area, bit, some, table, has}
 use Rattle.meaning.specs.Component.{component}
-use Rattle.meaning.specs.Plate.{touch, grey}
-use Rattle.meaning.specs.Opening.{attribute}
+use Rattle.meaning.specs.Plate.{touch, grey, onTrimEdge}
+use Rattle.meaning.specs.Opening.{Reaches}
 
 -- the pixels of p's grey
 abbrev pub alike : (ℕ → ℕ) → ℕ → ℕ → Bool
@@ -39,8 +40,9 @@ unfoldable pub marks : ℕ → ℕ → List ℕ → List ℕ
 unfolding maximum table touch
 marks k w f = table (length f) (λ (p : ℕ). bit (maximum (length f) (touch k w) (grey f) p))
 
--- every regional maximum of a plate has at least the limit's pixels
+-- every regional maximum of a plate has at least the limit's pixels or reaches the trim edge
 abbrev pub LargeMaxima : ℕ → ℕ → ℕ → ℕ → List ℕ → Type 0
 LargeMaxima k w h limit g =
     (p : ℕ) → p < length g → Maximum (length g) (touch k w) (grey g) p
-    → limit ≤ attribute w h (has (flatZone (length g) (touch k w) (grey g) p))
+    → (limit ≤ area (length g) (has (flatZone (length g) (touch k w) (grey g) p)))
+    ⊎ Reaches (length g) (onTrimEdge w h) (has (flatZone (length g) (touch k w) (grey g) p))

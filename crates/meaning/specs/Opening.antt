@@ -1,14 +1,15 @@
--- Patches, and the opening of a plate. An opening goes by a criterion, a test that says which sets of pixels qualify; the area opening's is
--- "at least the limit's pixels". The theory holds for every increasing criterion (attribute openings).
-use mathlib.Core.Bool.{Bool, true, _||_}
+-- Patches, and the opening of a plate. An opening goes by a criterion, a test that says which sets of pixels qualify; here it is
+-- "at least the limit's pixels, or a pixel of the trim edge". The theory holds for every increasing criterion (attribute openings).
+use mathlib.Core.Logic.{_⊎_}
+use mathlib.Core.Bool.{Bool, true, _&&_, _||_}
 use mathlib.Core.List.{List}
 use Prim.Native.Nat.{ℕ, _*_, _≤_, _<_}
 use lib.Dec.{T, eqb, leb}
 use lib.ListN.{length}
-use Rattle.meaning.specs.Sets.{Within, area, greatest, pick, table, has, elem, Distinct}
+use Rattle.meaning.specs.Sets.{Within, area, greatest, pick, some, table, has, elem, Distinct}
 use Rattle.meaning.specs.Paths.{Joined}
 use Rattle.meaning.specs.Component.{component}
-use Rattle.meaning.specs.Plate.{touch, grey, negative}
+use Rattle.meaning.specs.Plate.{touch, grey, negative, onTrimEdge}
 
 -- the level set at t: the pixels of grey at least t
 abbrev pub lighter : (ℕ → ℕ) → ℕ → ℕ → Bool
@@ -41,15 +42,24 @@ pub record Attribute (n : ℕ) (att : (ℕ → Bool) → ℕ) : Type 0 where
   pub positive : (s : ℕ → Bool) (q : ℕ) → q < n → T (s q) → 1 ≤ att s
   pub all : n ≤ att (λ (q : ℕ). true)
 
--- the one place that knows the qualifying attribute of a set of pixels of a plate of width w and height h: its area
-abbrev pub attribute : (w h : ℕ) → (ℕ → Bool) → ℕ
-attribute w h s = area (w * h) s
+-- a set holds a pixel of the edge, as a test and as a statement. n: the pixels
+unfoldable pub reaches : ℕ → (ℕ → Bool) → (ℕ → Bool) → Bool
+unfolding some
+reaches n edge s = some n (λ (q : ℕ). s q && edge q)
 
--- ---- the area opening and closing of a plate
+abbrev pub Reaches : ℕ → (ℕ → Bool) → (ℕ → Bool) → Type 0
+Reaches n edge s = (q : ℕ) × (q < n) × T (s q) × T (edge q)
+
+-- the one place that knows the qualifying attribute of a set of pixels of a plate of width w and height h: all the pixels where it holds one of the
+-- trim edge, so that it qualifies at every limit; else its area
+abbrev pub attribute : (w h : ℕ) → (ℕ → Bool) → ℕ
+attribute w h s = pick (reaches (w * h) (onTrimEdge w h) s) (w * h) (area (w * h) s)
+
+-- ---- the opening and closing of a plate
 
 -- the opened value of each pixel
 unfoldable pub opened : ℕ → ℕ → ℕ → ℕ → List ℕ → List ℕ
-unfolding openedAt table touch area
+unfolding openedAt table touch area reaches onTrimEdge
 opened k w h limit f = table (length f) (openedAt (length f) (touch k w) (atLeast (attribute w h) limit) (grey f))
 
 -- the closed value is the greatest grey minus the opened value on the negative
@@ -76,13 +86,13 @@ cleaned side k w h limit f = pick (eqb side darkSide) (closed k w h limit f) (op
 
 -- ---- the specification's words
 
--- a connected set of at least `limit` distinct pixels that contains p, with no grey below t
-pub record Region (n : ℕ) (near : ℕ → ℕ → Bool) (f : ℕ → ℕ) (limit t p : ℕ) : Type 0 where
+-- a connected set of distinct pixels that contains p, with no grey below t, and that has at least `limit` pixels or holds one of the edge
+pub record Region (n : ℕ) (near : ℕ → ℕ → Bool) (edge : ℕ → Bool) (f : ℕ → ℕ) (limit t p : ℕ) : Type 0 where
   pub pixels : List ℕ
   pub distinct : Distinct pixels
   pub inside : (q : ℕ) → T (elem pixels q) → q < n
   pub holds : T (elem pixels p)
-  pub enough : limit ≤ length pixels
+  pub qualifies : (limit ≤ length pixels) ⊎ ((q : ℕ) × T (elem pixels q) × T (edge q))
   pub light : (q : ℕ) → T (elem pixels q) → t ≤ f q
   pub connected : (a b : ℕ) → T (elem pixels a) → T (elem pixels b) → Joined n near (elem pixels) a b
 

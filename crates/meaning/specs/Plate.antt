@@ -1,5 +1,5 @@
 -- A plate (a grey image): a list of greys, row by row; SPECIFICATION 2. The one place that knows the sizes, the kinds of
--- connectivity and the greatest grey.
+-- connectivity, the trim edge and the greatest grey.
 use mathlib.Core.Path.{_≡_}
 use mathlib.Core.Bool.{Bool, true, _&&_, _||_}
 use mathlib.Core.List.{List, map}
@@ -60,6 +60,10 @@ touchAt k x y x′ y′ = pick (eqb k 4) (byEdge x y x′ y′) (pick (eqb k 6) 
 -- pixels p and q of a plate of width w touch. Columns and rows are compared, so nothing wraps round the border
 unfoldable pub touch : (k w p q : ℕ) → Bool
 touch k w p q = touchAt k (p % w) (p / w) (q % w) (q / w)
+
+-- pixel p of a plate of width w and height h is on the trim edge: in the first or last row, or in the first or last column
+unfoldable pub onTrimEdge : (w h p : ℕ) → Bool
+onTrimEdge w h p = (eqb (p / w) 0 || eqb (p / w + 1) h) || (eqb (p % w) 0 || eqb (p % w + 1) w)
 
 -- the grey of pixel p
 abbrev pub grey : List ℕ → ℕ → ℕ
