@@ -19,7 +19,7 @@ use Rattle.theory_lists.proofs.Lists.{getD-map, table-same, elem-nth, getD-tabl
 use Rattle.theory_lists.proofs.Sets.{lowest-is}
 use Rattle.theory_lists.proofs.Sums.{sum-cong}
 use Rattle.theory_connectivity.proofs.Touch.{fits-grid}
-use Rattle.theory_opening.proofs.Area.{area-attribute}
+use Rattle.theory_opening.proofs.TrimEdge.{trim-attribute}
 use Rattle.theory_opening.proofs.Attribute.{attribute-criterion}
 use Rattle.theory_opening.proofs.Opening.{opened-below}
 use Rattle.theory_tree.specs.Tree.{Nodes}
@@ -85,7 +85,7 @@ module _ {k w h : ℕ} {f : List ℕ} (plate : Plate k w h f) where
   opened-grey limit = grey-table (length f) (openedAt (length f) (touch k w) (atLeast (attribute w h) limit) (grey f))
 
   pub plate-attribute : Attribute (length f) (attribute w h)
-  plate-attribute = area-attribute w h (plate .long)
+  plate-attribute = trim-attribute w h (plate .long)
 
   pub at-limit : (limit : ℕ) → limit ≤ length f → Criterion (length f) (atLeast (attribute w h) limit)
   at-limit = attribute-criterion plate-attribute

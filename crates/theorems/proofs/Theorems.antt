@@ -1,30 +1,33 @@
 -- The theorems about plates, proved; specs/Theorems.antt says what each states. Each cites the general law, which holds for any symmetric adjacency, any
 -- greys and any increasing criterion or attribute (crates theory_connectivity, theory_opening and theory_tree).
 use mathlib.Core.Path.{_≡_, refl, sym, ap, _∙_}
-use mathlib.Core.Bool.{Bool}
+use mathlib.Core.Logic.{_⊎_}
+use mathlib.Core.Bool.{Bool, not, _&&_}
 use mathlib.Core.List.{List}
-use Prim.Native.Nat.{ℕ, suc, _-_, _*_, _≤_, _<_, max}
+use Prim.Native.Nat.{ℕ, suc, _+_, _-_, _*_, _≤_, _<_, max}
+use native.Mathlib.Nat.{le-refl, mul-comm}
 use native.Mathlib.Omega.{arith}
-use lib.Dec.{leb, leb→le, le→leb}
+use lib.Dec.{eqb, leb, leb→le, le→leb}
 use lib.ListN.{length}
-use Rattle.meaning.specs.Cut.{total}
+use Rattle.meaning.specs.Cut.{countAt, cut, darkest, held, total}
 use Rattle.meaning.specs.Maxima.{LargeMaxima, MaximaKept, Maximum, flatZone, marks, maximum}
-use Rattle.meaning.specs.Nodes.{nodesOf, own}
-use Rattle.meaning.specs.Opening.{atLeast, attribute, closed, opened, openedAt}
-use Rattle.meaning.specs.Plate.{Plate, greatestGrey, grey, negative, touch}
-use Rattle.meaning.specs.Sets.{bit, has, nth, table}
+use Rattle.meaning.specs.Nodes.{areaOf, holds, nodesOf, own, rise}
+use Rattle.meaning.specs.Opening.{Reaches, atLeast, attribute, closed, opened, openedAt, reaches}
+use Rattle.meaning.specs.Plate.{Plate, greatestGrey, grey, negative, onTrimEdge, touch}
+use Rattle.meaning.specs.Sets.{area, bit, has, nth, pick, sum, table}
 use Rattle.theory_connectivity.proofs.Component.{component-complete, component-sound}
 use Rattle.theory_connectivity.proofs.Touch.{touch-sym, touch-whole}
 use Rattle.theory_lists.proofs.Lists.{getD-table, table-same}
+use Rattle.theory_lists.proofs.Sums.{area-cong}
 use Rattle.theory_lists.proofs.Tests.{bit-no, bit-true, bit-yes}
 use Rattle.theory_opening.proofs.Absorb.{opened-cong}
-use Rattle.theory_opening.proofs.Area.{area-words}
 use Rattle.theory_opening.proofs.Attribute.{attribute-one, attribute-twice}
 use Rattle.theory_opening.proofs.Maxima.{maxima-cong, maxima-kept, maximum-complete, maximum-sound, opened-lightest}
 use Rattle.theory_opening.proofs.Opening.{opened-increasing}
+use Rattle.theory_opening.proofs.TrimEdge.{trim-area, trim-limit, trim-words}
 use Rattle.theory_tree.specs.Tree.{live}
 use Rattle.theory_tree.proofs.Leaves.{leaf-maximum, maximum-leaf}
-use Rattle.theory_tree.proofs.Losses.{area-total-all, cut-opened, losses-total, lost-nodes, total-lost, total-nodes}
+use Rattle.theory_tree.proofs.Losses.{cut-opened, losses-total, lost-nodes, total-lost, total-nodes, total-rest}
 use Rattle.theory_tree.proofs.NodeSets.{anchor-holds, anchor-lowest, level-least, node-number, nodes-chain, number-node, number-only, parent-holds}
 use Rattle.theory_tree.proofs.Nodes.{
   holds-over,
@@ -46,10 +49,13 @@ use Rattle.theorems.specs.Theorems.{
   AnchorIsLowest,
   ClosedIsLeast,
   ComponentPaths,
+  CountedOffEdge,
   CutEqualsOpened,
   CutIsSum,
   CutTotal,
   GridConnected,
+  HeldIsSum,
+  HeldMakesCut,
   LevelIsLeast,
   LossesMakeTotal,
   LostIsSum,
@@ -125,7 +131,7 @@ module _ {k w h : ℕ} {f : List ℕ} (plate : Plate k w h f) where
   -- ---- 3. the opened value
 
   pub opened-is-greatest : OpenedIsGreatest k w h f
-  opened-is-greatest limit t p m l = rw (opened-grey plate limit p l) (area-words (grey f) limit t p w h (plate .long) (plate-grid plate) m l)
+  opened-is-greatest limit t p m l = rw (opened-grey plate limit p l) (trim-words w h (plate .long) (grey f) limit t p (plate-grid plate) m l)
 
   pub closed-is-least : ClosedIsLeast k w h f
   closed-is-least limit t p m l =
@@ -137,7 +143,7 @@ module _ {k w h : ℕ} {f : List ℕ} (plate : Plate k w h f) where
       (omega (arith, closed-grey plate limit p l))
       ∙ opened-grey neg limit p (omega arith)
       ∙ ap (λ (m : ℕ). openedAt m near (atLeast (attribute w h) limit) (grey (negative f)) p) e in
-      rw c (area-words (grey (negative f)) limit t p w h (plate .long) (plate-grid plate) m l)
+      rw c (trim-words w h (plate .long) (grey (negative f)) limit t p (plate-grid plate) m l)
 
   -- ---- 4. the opening
 
@@ -145,21 +151,26 @@ module _ {k w h : ℕ} {f : List ℕ} (plate : Plate k w h f) where
   opened-nowhere-lighter limit m = (opened-length plate limit, λ p l. opened-below-plate plate limit p m l)
 
   -- a plate's maxima by the function of its greys, and by its list
-  large-kept : (limit : ℕ) (g : List ℕ) → length g ≡ n → LargeMaxima k w h limit g → MaximaKept n near (atLeast (attribute w h) limit) (grey g)
-  large-kept limit g e m =
-      let kept : MaximaKept (length g) near (atLeast (attribute w h) limit) (grey g) =
-      λ p l x. le→leb limit (attribute w h (has (flatZone (length g) near (grey g) p))) (m p l x) in
-      rw e at kept
+  large-kept : (limit : ℕ) → limit ≤ n → (g : List ℕ) → length g ≡ n → LargeMaxima k w h limit g
+      → MaximaKept n near (atLeast (attribute w h) limit) (grey g)
+  large-kept limit b g e m =
+      λ p l x.
+      let zone : ℕ → Bool = has (flatZone n near (grey g) p) in
+      le→leb limit (attribute w h zone) (trim-limit w h (plate .long) limit b zone .1 ((rw e at m) p l x))
 
-  kept-large : (limit : ℕ) (g : List ℕ) → length g ≡ n → MaximaKept n near (atLeast (attribute w h) limit) (grey g) → LargeMaxima k w h limit g
-  kept-large limit g e m =
-      let large : (p : ℕ) → p < n → Maximum n near (grey g) p → limit ≤ attribute w h (has (flatZone n near (grey g) p)) =
-      λ p l x. leb→le limit (attribute w h (has (flatZone n near (grey g) p))) (m p l x) in
+  kept-large : (limit : ℕ) → limit ≤ n → (g : List ℕ) → length g ≡ n
+      → MaximaKept n near (atLeast (attribute w h) limit) (grey g) → LargeMaxima k w h limit g
+  kept-large limit b g e m =
+      let large : (p : ℕ) → p < n → Maximum n near (grey g) p
+      → (limit ≤ area n (has (flatZone n near (grey g) p))) ⊎ Reaches n (onTrimEdge w h) (has (flatZone n near (grey g) p)) =
+      λ p l x.
+      let zone : ℕ → Bool = has (flatZone n near (grey g) p) in
+      trim-limit w h (plate .long) limit b zone .0 (leb→le limit (attribute w h zone) (m p l x)) in
       rw e large
 
   pub opened-large-maxima : OpenedLargeMaxima k w h f
   opened-large-maxima limit m =
-      kept-large limit (opened k w h limit f) (opened-length plate limit)
+      kept-large limit m (opened k w h limit f) (opened-length plate limit)
       (maxima-cong near (at-limit plate limit m) (openedAt n near (atLeast (attribute w h) limit) (grey f)) (grey (opened k w h limit f))
       (λ p l. sym (opened-grey plate limit p l))
       (maxima-kept (plate-grid plate) (at-limit plate limit m) (grey f)))
@@ -170,7 +181,7 @@ module _ {k w h : ℕ} {f : List ℕ} (plate : Plate k w h f) where
     λ p l.
         let lp : p < n = rw (opened-length plate limit) at l in
         rw (opened-grey plate limit p lp)
-        (opened-lightest (plate-grid plate) (at-limit plate limit m) (grey f) (grey g) (b .1) (large-kept limit g (b .0) x) p lp),
+        (opened-lightest (plate-grid plate) (at-limit plate limit m) (grey f) (grey g) (b .1) (large-kept limit m g (b .0) x) p lp),
   )
 
   pub opened-at-one : OpenedAtOne k w h f
@@ -290,15 +301,48 @@ module _ {k w h : ℕ} {f : List ℕ} (plate : Plate k w h f) where
   lost-makes-cut a h =
       omega (arith, total-cut plate a, total-cut plate (suc a), total-lost (plate-grid plate) (plate-attribute plate) (plate-nodes plate) a h)
 
+  -- the nodes after the root whose attribute is all the pixels
+  abbrev rest : ℕ
+  rest =
+      sum (length xs - 1) (λ (j : ℕ).
+      pick (leb n (attribute w h (holds n near (grey f) xs (suc j)))) (areaOf n near (grey f) xs (suc j) * rise n near (grey f) xs (suc j)) 0)
+
+  full-cut : total (cut k w h n f) ≡ rest + n * darkest f
+  full-cut =
+      omega (
+        arith,
+        total-cut plate n,
+        total-rest (plate-grid plate) (plate-attribute plate) (plate-nodes plate) (plate-some plate) n (le-refl n),
+        ap (λ (d : ℕ). n * d) (darkest-root plate),
+      )
+
+  pub held-is-sum : HeldIsSum k w h f
+  unfolding held
+  held-is-sum =
+      let e : held k w h f ≡ total (cut k w h n f) - darkest f * n = rw (plate .long) in
+      let c : darkest f * n ≡ n * darkest f = mul-comm (darkest f) n in
+      omega (arith, e, c, full-cut)
+
+  pub held-makes-cut : HeldMakesCut k w h f
+  held-makes-cut = omega (arith, held-is-sum, full-cut)
+
   pub losses-make-total : LossesMakeTotal k w h f
   unfolding total
   losses-make-total =
       omega (
         arith,
         losses-total (plate-grid plate) (plate-attribute plate) (plate-nodes plate) (plate-some plate),
-        area-total-all w h (plate .long) (plate-grid plate) (plate-nodes plate),
-        ap (λ (d : ℕ). n * d) (darkest-root plate),
+        total-cut plate n,
+        held-makes-cut,
       )
+
+  pub counted-off-edge : CountedOffEdge k w h f
+  unfolding countAt areaOf
+  counted-off-edge a l =
+      area-cong (length xs)
+      (λ (i : ℕ). eqb (attribute w h (holds n near (grey f) xs i)) a)
+      (λ (i : ℕ). not (reaches n (onTrimEdge w h) (holds n near (grey f) xs i)) && eqb (areaOf n near (grey f) xs i) a)
+      (λ i m. trim-area w h (plate .long) a l (holds n near (grey f) xs i))
 
   -- ---- 8. marks
 

@@ -2,19 +2,19 @@
 -- greys f. proofs/Theorems.antt proves each under the same name.
 use mathlib.Core.Path.{_≡_}
 use mathlib.Core.Logic.{_⊎_, _↔_}
-use mathlib.Core.Bool.{Bool, true, _&&_}
+use mathlib.Core.Bool.{Bool, true, not, _&&_}
 use mathlib.Core.List.{List}
 use Prim.Native.Nat.{ℕ, suc, _+_, _-_, _*_, _≤_, _<_, max}
 use lib.Dec.{T, eqb, leb}
 use lib.ListN.{length}
 use Rattle.meaning.specs.Component.{component}
-use Rattle.meaning.specs.Cut.{cut, darkest, lostAt, total}
+use Rattle.meaning.specs.Cut.{countAt, cut, darkest, held, lostAt, total}
 use Rattle.meaning.specs.Maxima.{LargeMaxima, Maximum, marks, maximum}
 use Rattle.meaning.specs.Nodes.{NodeSet, Same, areaOf, holds, levelOf, nodesOf, own, parent, rise}
-use Rattle.meaning.specs.Opening.{Region, attribute, closed, opened}
+use Rattle.meaning.specs.Opening.{Region, attribute, closed, opened, reaches}
 use Rattle.meaning.specs.Paths.{Joined}
-use Rattle.meaning.specs.Plate.{NowhereLighter, Plate, greatestGrey, grey, negative, touch}
-use Rattle.meaning.specs.Sets.{Within, has, nth, pick, sum}
+use Rattle.meaning.specs.Plate.{NowhereLighter, Plate, greatestGrey, grey, negative, onTrimEdge, touch}
+use Rattle.meaning.specs.Sets.{Within, area, has, nth, pick, sum}
 use Rattle.theory_tree.specs.Tree.{Ancestor, Before}
 
 -- ---- 1. paths and components
@@ -46,14 +46,16 @@ module _ (k w h : ℕ) (f : List ℕ) where
 
   -- ---- 3. the opened value
 
-  -- a connected set of at least the limit's pixels contains p and has no grey below t exactly when t ≤ the opened value
+  -- a connected set that has at least the limit's pixels or holds one of the trim edge contains p and has no grey below t exactly when t ≤ the opened
+  -- value
   abbrev pub OpenedIsGreatest : Type 0
-  OpenedIsGreatest = (limit t p : ℕ) → limit ≤ n → p < n → Region n near (grey f) limit t p ↔ t ≤ grey (opened k w h limit f) p
+  OpenedIsGreatest = (limit t p : ℕ) → limit ≤ n → p < n → Region n near (onTrimEdge w h) (grey f) limit t p ↔ t ≤ grey (opened k w h limit f) p
 
   -- the closed value is the greatest grey minus the opened value on the negative
   abbrev pub ClosedIsLeast : Type 0
   ClosedIsLeast =
-      (limit t p : ℕ) → limit ≤ n → p < n → Region n near (grey (negative f)) limit t p ↔ t ≤ greatestGrey - grey (closed k w h limit f) p
+      (limit t p : ℕ) → limit ≤ n → p < n
+      → Region n near (onTrimEdge w h) (grey (negative f)) limit t p ↔ t ≤ greatestGrey - grey (closed k w h limit f) p
 
   -- ---- 4. the opening
 
@@ -61,7 +63,7 @@ module _ (k w h : ℕ) (f : List ℕ) where
   abbrev pub OpenedNowhereLighter : Type 0
   OpenedNowhereLighter = (limit : ℕ) → limit ≤ n → NowhereLighter (opened k w h limit f) f
 
-  -- every regional maximum of the opening has at least the limit's pixels
+  -- every regional maximum of the opening has at least the limit's pixels or reaches the trim edge
   abbrev pub OpenedLargeMaxima : Type 0
   OpenedLargeMaxima = (limit : ℕ) → limit ≤ n → LargeMaxima k w h limit (opened k w h limit f)
 
@@ -189,9 +191,27 @@ module _ (k w h : ℕ) (f : List ℕ) where
   abbrev pub LostMakesCut : Type 0
   LostMakesCut = (a : ℕ) → a < n → lostAt n near (grey f) xs (attribute w h) a + total (cut k w h (suc a) f) ≡ total (cut k w h a f)
 
-  -- all losses plus darkest grey times pixels make the plate's total
+  -- the grey held is that sum over the nodes after the root whose attribute is all the pixels; with the darkest grey over every pixel it makes the
+  -- total of the cut at the full limit
+  abbrev pub HeldIsSum : Type 0
+  HeldIsSum =
+      held k w h f
+      ≡ sum (length xs - 1) (λ (j : ℕ).
+      pick (leb n (attribute w h (holds n near (grey f) xs (suc j)))) (areaOf n near (grey f) xs (suc j) * rise n near (grey f) xs (suc j)) 0)
+
+  abbrev pub HeldMakesCut : Type 0
+  HeldMakesCut = held k w h f + n * darkest f ≡ total (cut k w h n f)
+
+  -- all losses, the grey held and the darkest grey over every pixel make the plate's total
   abbrev pub LossesMakeTotal : Type 0
-  LossesMakeTotal = sum (n - 1) (λ (i : ℕ). lostAt n near (grey f) xs (attribute w h) (suc i)) + n * darkest f ≡ total f
+  LossesMakeTotal = sum (n - 1) (λ (i : ℕ). lostAt n near (grey f) xs (attribute w h) (suc i)) + held k w h f + n * darkest f ≡ total f
+
+  -- the nodes counted at an area below the pixels are those off the trim edge of that area
+  abbrev pub CountedOffEdge : Type 0
+  CountedOffEdge =
+      (a : ℕ) → a < n
+      → countAt n near (grey f) xs (attribute w h) a
+      ≡ area (length xs) (λ (i : ℕ). not (reaches n (onTrimEdge w h) (holds n near (grey f) xs i)) && eqb (areaOf n near (grey f) xs i) a)
 
   -- ---- 8. marks: 1 exactly where the outside neighbours of the pixel's flat zone are all strictly darker, else 0
 

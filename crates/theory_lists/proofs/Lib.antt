@@ -3,3 +3,4 @@ pub mod Tests
 pub mod Sets
 pub mod Lists
 pub mod Sums
+pub mod Written

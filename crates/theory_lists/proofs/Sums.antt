@@ -63,6 +63,10 @@ unfolding area sum
 area-sum zero s = refl
 area-sum (suc n) s = omega (arith, area-sum n s)
 
+pub area-cong : (n : ℕ) (s s′ : ℕ → Bool) → ((q : ℕ) → q < n → s q ≡ s′ q) → area n s ≡ area n s′
+area-cong n s s′ e =
+    area-sum n s ∙ sum-cong n (λ (q : ℕ). bit (s q)) (λ (q : ℕ). bit (s′ q)) (λ q l. ap bit (e q l)) ∙ sym (area-sum n s′)
+
 pub sum-bits : (n : ℕ) (b : Bool) (s : ℕ → Bool) → sum n (λ (q : ℕ). bit (b && s q)) ≡ pick b (area n s) 0
 sum-bits n true s = sym (area-sum n s)
 sum-bits n false s = sum-zero n

@@ -3,4 +3,4 @@ pub mod Opening
 pub mod Maxima
 pub mod Absorb
 pub mod Attribute
-pub mod Area
+pub mod TrimEdge

@@ -1,33 +1,30 @@
 -- Totals of cuts, and what each value of the attribute takes away. Proved for every attribute: the cut of the tree is the opening (cut-opened); the total
 -- of the cut at a limit is the sum, over the nodes that qualify, of area times rise (total-nodes); the grey lost at a is that sum over the nodes whose
 -- attribute is a (lost-nodes), and with the total at a + 1 it makes the total at a (total-lost); the losses at 1 .. n - 1 and the total at n make the
--- plate's total (losses-total). For the area: the cut at n is the darkest grey everywhere (area-all-darkest).
+-- plate's total (losses-total); the total at a limit is the root's level times n and that sum over the qualifying nodes after the root (total-rest).
 use mathlib.Core.Path.{_≡_, sym, ap, _∙_}
-use mathlib.Core.Bool.{Bool}
+use mathlib.Core.Bool.{Bool, true}
 use mathlib.Core.List.{List}
 use Prim.Native.Nat.{ℕ, suc, _+_, _-_, _*_, _≤_, _<_}
-use native.Mathlib.Nat.{le-refl, le-trans, le-of-eq, le-antisymm}
+use native.Mathlib.Nat.{le-trans, le-of-eq, le-antisymm}
 use native.Mathlib.Decide.{decLe}
 use native.Mathlib.Omega.{arith}
-use lib.Dec.{leb, leb→le, eqb, eqb→eq, eqb-refl}
+use lib.Dec.{T, leb, le→leb, eqb, eqb→eq, eqb-refl}
 use lib.ListN.{length}
 use Rattle.meaning.specs.Component.{same}
 use Rattle.meaning.specs.Cut.{cutAt, lostAt}
 use Rattle.meaning.specs.Nodes.{areaOf, holds, levelOf, rise}
-use Rattle.meaning.specs.Opening.{Attribute, Criterion, atLeast, attribute, openedAt, patch}
+use Rattle.meaning.specs.Opening.{Attribute, Criterion, atLeast, openedAt}
 use Rattle.meaning.specs.Paths.{Grid}
 use Rattle.meaning.specs.Plate.{Below}
-use Rattle.meaning.specs.Sets.{area, has, nth, pick, sum}
-use Rattle.theory_connectivity.proofs.Paths.{end-ok}
-use Rattle.theory_lists.proofs.Sets.{area-full, most-ge, most-le}
-use Rattle.theory_lists.proofs.Sums.{sum-add, sum-cong, sum-const, sum-steps}
+use Rattle.meaning.specs.Sets.{nth, pick, sum}
+use Rattle.theory_lists.proofs.Sets.{area-all, most-ge, most-le}
+use Rattle.theory_lists.proofs.Sums.{sum-add, sum-cong, sum-first, sum-steps}
 use Rattle.theory_lists.proofs.Tests.{orders, pick-le, pick-no, pick-yes}
-use Rattle.theory_opening.proofs.Area.{area-attribute}
 use Rattle.theory_opening.proofs.Attribute.{attribute-criterion, attribute-falls, attribute-one}
-use Rattle.theory_opening.proofs.Opening.{opened-kept, patch-joined}
 use Rattle.theory_tree.specs.Tree.{Nodes, live}
-use Rattle.theory_tree.proofs.Nodes.{nth-inside, some-node}
-use Rattle.theory_tree.proofs.Rises.{live-hit, live-level, live-root, total-sum}
+use Rattle.theory_tree.proofs.Nodes.{over-holds, root-over, some-node}
+use Rattle.theory_tree.proofs.Rises.{live-hit, live-level, total-sum}
 
 -- ---- the cut of the tree is the opening
 
@@ -130,22 +127,27 @@ module _ {n : ℕ} {near : ℕ → ℕ → Bool} {att : (ℕ → Bool) → ℕ} 
         total-one,
       )
 
--- ---- the area
+  -- ---- the root
 
-module _ {n : ℕ} (w h : ℕ) (e : n ≡ w * h) {near : ℕ → ℕ → Bool} (grid : Grid n near) {f : ℕ → ℕ} {xs : List ℕ} (nodes : Nodes n near f xs) where
-  -- the cut at n is the root's level, the darkest grey, everywhere
-  pub area-all-darkest : (p : ℕ) → p < n → cutAt n near f xs (atLeast (attribute w h) n) p ≡ f (nth xs 0)
-  area-all-darkest p l =
-      let c = attribute-criterion (area-attribute w h e) n (le-refl n) in
-      let t : ℕ = openedAt n near (atLeast (attribute w h) n) f p in
-      let a : ℕ = nth xs 0 in
-      let la : a < n = nth-inside grid nodes 0 (some-node grid nodes p l) in
-      let s : ℕ → Bool = has (patch n near f t p) in
-      let full : n ≤ area n s = rw (← e) at (leb→le n (attribute w h s) (opened-kept grid c f t p l (le-refl t))) in
-      cut-opened grid c nodes p l
-      ∙ le-antisymm
-      (leb→le t (f a) (end-ok (patch-joined grid f t p a la (area-full n s full a la))))
-      (live-level grid c nodes p 0 l (live-root grid c nodes p l))
+  root-whole : (q : ℕ) → q < n → T (holds n near f xs 0 q)
+  root-whole q l = over-holds grid nodes 0 q (root-over grid nodes q l)
 
-  pub area-total-all : sum n (cutAt n near f xs (atLeast (attribute w h) n)) ≡ n * f (nth xs 0)
-  area-total-all = sum-cong n (cutAt n near f xs (atLeast (attribute w h) n)) (λ (p : ℕ). f (nth xs 0)) area-all-darkest ∙ sum-const n (f (nth xs 0))
+  root-area : areaOf n near f xs 0 ≡ n
+  unfolding areaOf
+  root-area = area-all n (holds n near f xs 0) root-whole
+
+  root-qualifies : (limit : ℕ) → limit ≤ n → T (leb limit (att (holds n near f xs 0)))
+  root-qualifies limit h =
+      le→leb limit (att (holds n near f xs 0))
+      (omega (arith, at .all, at .increasing (λ (q : ℕ). true) (holds n near f xs 0) (λ q l t. root-whole q l)))
+
+  -- the root's level is in every pixel of a cut, and the other nodes that qualify add to it
+  pub total-rest : 0 < n → (limit : ℕ) → limit ≤ n
+      → cutTotal limit ≡ n * f (nth xs 0) + sum (length xs - 1) (λ (j : ℕ). pick (leb limit (att (holds n near f xs (suc j)))) (part (suc j)) 0)
+  unfolding rise
+  total-rest some limit h =
+      let g : ℕ → ℕ = λ (j : ℕ). pick (leb limit (att (holds n near f xs j))) (part j) 0 in
+      let e : length xs ≡ suc (length xs - 1) = omega (arith, some-node grid nodes 0 some) in
+      let root : g 0 ≡ n * f (nth xs 0) =
+      pick-yes (leb limit (att (holds n near f xs 0))) (part 0) 0 (root-qualifies limit h) ∙ rw root-area in
+      total-nodes limit h ∙ ap (λ (c : ℕ). sum c g) e ∙ sum-first (length xs - 1) g ∙ rw root
