@@ -12,7 +12,7 @@ use Rattle.meaning.specs.Nodes.{areaOf, holds, levelOf, own, parent}
 use Rattle.meaning.specs.Opening.{Attribute, attribute}
 use Rattle.meaning.specs.Paths.{Grid}
 use Rattle.meaning.specs.Plate.{greatestGrey, grey}
-use Rattle.meaning.specs.Sets.{area, elem, nth}
+use Rattle.meaning.specs.Sets.{elem, nth}
 use Rattle.theory_lists.proofs.Lists.{distinct-area}
 use Rattle.theory_lists.proofs.Sets.{area-le}
 use Rattle.theory_connectivity.proofs.Touch.{fits-grid}
@@ -21,11 +21,11 @@ use Rattle.theory_tree.proofs.NodeSets.{anchor-holds}
 use Rattle.theory_tree.proofs.Nodes.{nodes-distinct, nth-inside, over-holds, own-below, parent-area, parent-below, parent-level, root-over}
 use Rattle.theory_tree.proofs.Nodes.{some-node}
 use Rattle.theorems.proofs.Plates.{darkest-root, plate-attribute, plate-nodes, plate-some}
-use Rattle.work_columns.specs.Columns.{Frame, col}
+use Rattle.work_columns.specs.Columns.{Frame, Only, col}
 use Rattle.work_columns.specs.Layout.{ANCHOR, AREA, ATTRIBUTE, GREY, LEVEL, OWN, PARENT, VALUE, greysIn, touchIn}
 use Rattle.work_columns.specs.declared.Shape.{Shape}
 use Rattle.work_columns.proofs.Columns.{frame-room}
-use Rattle.maxtree_columns.specs.Tree.{Attributed, Tree, TreeStands, nodesIn}
+use Rattle.maxtree_columns.specs.Tree.{Attributed, AttributedStands, Tree, TreeStands, nodesIn}
 use Rattle.maxtree_columns.proofs.Greys.{greys-plate}
 
 module _ {g : Shape} {f w : List ℕ} {count : ℕ} (t : Tree g f w count) where
@@ -108,46 +108,59 @@ module _ {g : Shape} {f w : List ℕ} {count : ℕ} (t : Tree g f w count) where
         area-most (parent n (touchIn g) (grey f) xs i),
       )
 
-  -- ---- what is held against the limit is the area, whose column stands
-
-  pub tree-attributed : Attributed g f w count
-  unfolding areaOf
-  tree-attributed = record {
-    tree = t;
-    attribute-is = λ i l.
-        t .area-is i l ∙ ap (λ (m : ℕ). area m (holds n (touchIn g) (grey f) xs i)) (sym (t .pixels) ∙ t .plate .long);
-  }
-
-  held : Attribute n (attribute (g .width) (g .height))
-  held = rw (t .pixels) at (plate-attribute (t .plate))
-
-  pub attribute-some : (i : ℕ) → i < count → 1 ≤ col ATTRIBUTE n w i
-  attribute-some i l =
-      let b : i < length xs = omega (arith, t .nodes) in
-      omega (
-        arith,
-        tree-attributed .attribute-is i l,
-        held .positive (holds n (touchIn g) (grey f) xs i) (nth xs i) (nth-inside tree-grid tree-nodes i b) (anchor-holds tree-grid tree-nodes i b),
-      )
-
-  pub attribute-root : n ≤ col ATTRIBUTE n w 0
-  attribute-root =
-      let all = held .increasing (λ q. true) (holds n (touchIn g) (grey f) xs 0)
-      (λ q l u. over-holds tree-grid tree-nodes 0 q (root-over tree-grid tree-nodes q l)) in
-      omega (arith, tree-attributed .attribute-is 0 some-nodes, held .all, all)
-
   -- ---- the tree stands as long as its columns do
 
-  pub tree-kept : {w′ : List ℕ} → Frame n w w′ → ((d : ℕ) → d < 8 → (d ≡ VALUE → ⊥) → col d n w′ ≡ col d n w) → Tree g f w′ count
+  tree-kept : {w′ : List ℕ} → Frame n w w′
+      → ((d : ℕ) → d < 8 → (d ≡ VALUE → ⊥) → (d ≡ ATTRIBUTE → ⊥) → col d n w′ ≡ col d n w) → Tree g f w′ count
   tree-kept {w′} frame off = record {
     plate = t .plate;
     pixels = t .pixels;
     room = frame-room (t .room) frame;
-    greys = off GREY (omega arith) (λ x. omega arith) ∙ t .greys;
+    greys = off GREY (omega arith) (λ x. omega arith) (λ x. omega arith) ∙ t .greys;
     nodes = t .nodes;
-    own-is = rw (off OWN (omega arith) (λ x. omega arith)) (t .own-is);
-    anchor-is = rw (off ANCHOR (omega arith) (λ x. omega arith)) (t .anchor-is);
-    level-is = rw (off LEVEL (omega arith) (λ x. omega arith)) (t .level-is);
-    parent-is = rw (off PARENT (omega arith) (λ x. omega arith)) (t .parent-is);
-    area-is = rw (off AREA (omega arith) (λ x. omega arith)) (t .area-is);
+    own-is = rw (off OWN (omega arith) (λ x. omega arith) (λ x. omega arith)) (t .own-is);
+    anchor-is = rw (off ANCHOR (omega arith) (λ x. omega arith) (λ x. omega arith)) (t .anchor-is);
+    level-is = rw (off LEVEL (omega arith) (λ x. omega arith) (λ x. omega arith)) (t .level-is);
+    parent-is = rw (off PARENT (omega arith) (λ x. omega arith) (λ x. omega arith)) (t .parent-is);
+    area-is = rw (off AREA (omega arith) (λ x. omega arith) (λ x. omega arith)) (t .area-is);
+  }
+
+  pub tree-valued : {w′ : List ℕ} → Only VALUE n w w′ → Tree g f w′ count
+  tree-valued o = tree-kept (o .frame) (λ d l x y. o .off d l x)
+
+  pub tree-marked : {w′ : List ℕ} → Only ATTRIBUTE n w w′ → Tree g f w′ count
+  tree-marked o = tree-kept (o .frame) (λ d l x y. o .off d l y)
+
+-- ---- what is held against the limit
+
+module _ {g : Shape} {f w : List ℕ} {count : ℕ} (a : Attributed g f w count) where
+  held : Attribute (g .pixels) (attribute (g .width) (g .height))
+  held = rw (a .tree .pixels) at (plate-attribute (a .tree .plate))
+
+  pub attributed-here : AttributedStands g w count
+  attributed-here = rw (tree-plate (a .tree)) a
+
+  pub attribute-some : (i : ℕ) → i < count → 1 ≤ col ATTRIBUTE (g .pixels) w i
+  attribute-some i l =
+      let t = a .tree in
+      let b : i < length (xs t) = omega (arith, t .nodes) in
+      let inside = nth-inside (tree-grid t) (tree-nodes t) i b in
+      omega (
+        arith,
+        a .attribute-is i l,
+        held .positive (holds (g .pixels) (touchIn g) (grey f) (xs t) i) (nth (xs t) i) inside (anchor-holds (tree-grid t) (tree-nodes t) i b),
+      )
+
+  pub attribute-root : g .pixels ≤ col ATTRIBUTE (g .pixels) w 0
+  attribute-root =
+      let t = a .tree in
+      let all = held .increasing (λ q. true) (holds (g .pixels) (touchIn g) (grey f) (xs t) 0)
+      (λ q l u. over-holds (tree-grid t) (tree-nodes t) 0 q (root-over (tree-grid t) (tree-nodes t) q l)) in
+      omega (arith, a .attribute-is 0 (some-nodes t), held .all, all)
+
+  -- it stands as long as the columns but VALUE do
+  pub attributed-kept : {w′ : List ℕ} → Only VALUE (g .pixels) w w′ → Attributed g f w′ count
+  attributed-kept o = record {
+    tree = tree-valued (a .tree) o;
+    attribute-is = rw (o .off ATTRIBUTE (omega arith) (λ x. omega arith)) (a .attribute-is);
   }

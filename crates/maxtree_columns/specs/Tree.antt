@@ -38,6 +38,10 @@ pub record Attributed (g : Shape) (f w : List ℕ) (count : ℕ) : Type 0 where
 abbrev pub TreeStands : (g : Shape) (w : List ℕ) (count : ℕ) → Type 0
 TreeStands g w count = Tree g (greysIn (g .pixels) w) w count
 
+-- with the attributes of its nodes
+abbrev pub AttributedStands : (g : Shape) (w : List ℕ) (count : ℕ) → Type 0
+AttributedStands g w count = Attributed g (greysIn (g .pixels) w) w count
+
 -- what building leaves: the tree of the plate whose greys stood there
 pub record Built (g : Shape) (w w′ : List ℕ) (count : ℕ) : Type 0 where
   pub frame : Frame (g .pixels) w w′

@@ -14,14 +14,15 @@ use Rattle.theory_lists.proofs.Tests.{passes}
 use Rattle.theory_opening.proofs.Opening.{opened-below}
 use Rattle.theory_tree.proofs.Cuts.{cut-kept, cut-own, cut-parent, cut-root}
 use Rattle.theorems.proofs.Plates.{at-limit, cut-is-opened}
-use Rattle.work_columns.specs.Columns.{Stored, col}
-use Rattle.work_columns.specs.Layout.{ATTRIBUTE, LEVEL, PARENT, VALUE, touchIn}
+use Rattle.work_columns.specs.Columns.{Only, Stored, col}
+use Rattle.work_columns.specs.Layout.{ATTRIBUTE, LEVEL, PARENT, VALUE, greysIn, touchIn}
 use Rattle.work_columns.specs.declared.Shape.{Shape}
-use Rattle.work_columns.proofs.Columns.{column-more}
+use Rattle.work_columns.proofs.Columns.{column-more, frame-trans, only-refl, only-store, only-trans}
 use Rattle.maxtree_columns.specs.Tree.{Attributed, Tree, nodesIn}
-use Rattle.maxtree_columns.proofs.Tree.{few-nodes, parent-earlier, tree-attributed, tree-grid, tree-nodes}
-use Rattle.maxtree_values.specs.Values.{Climbable, Climbed, CutOf, Valued, ValuesAre}
-use Rattle.maxtree_values.proofs.Values.{valued-refl, valued-store, valued-trans, valued-tree, values-are}
+use Rattle.maxtree_columns.proofs.Tree.{attributed-here, attributed-kept, few-nodes, parent-earlier, tree-grid, tree-nodes, tree-plate}
+use Rattle.maxtree_attribute.specs.Attributes.{AttributesSet}
+use Rattle.maxtree_values.specs.Values.{Climbable, Climbed, CutOf, ValuesAre}
+use Rattle.maxtree_values.proofs.Values.{values-are}
 
 -- ---- one climb
 
@@ -60,7 +61,10 @@ module _ {limit n : ℕ} {w : List ℕ} {i : ℕ} (can : Climbable limit n w (su
 
 -- ---- the loop over the nodes of a tree
 
-module _ {g : Shape} {f w : List ℕ} {count : ℕ} (t : Tree g f w count) (limit : ℕ) (m : limit ≤ g .pixels) where
+module _ {g : Shape} {f w : List ℕ} {count : ℕ} (a : Attributed g f w count) (limit : ℕ) (m : limit ≤ g .pixels) where
+  t : Tree g f w count
+  t = a .tree
+
   abbrev n : ℕ
   n = g .pixels
 
@@ -77,16 +81,13 @@ module _ {g : Shape} {f w : List ℕ} {count : ℕ} (t : Tree g f w count) (limi
   abbrev value : ℕ → ℕ
   value i = openedAt n (touchIn g) keep (grey f) (nth xs i)
 
-  held : Attributed g f w count
-  held = tree-attributed t
-
   qualifies : (i : ℕ) → i < count → limit ≤ col ATTRIBUTE n w i → T (keep (holds n (touchIn g) (grey f) xs i))
   qualifies i l q =
-      le→leb limit (attribute (g .width) (g .height) (holds n (touchIn g) (grey f) xs i)) (omega (arith, held .attribute-is i l))
+      le→leb limit (attribute (g .width) (g .height) (holds n (touchIn g) (grey f) xs i)) (omega (arith, a .attribute-is i l))
 
   fails : (i : ℕ) → i < count → col ATTRIBUTE n w i < limit → T (keep (holds n (touchIn g) (grey f) xs i)) → ⊥
   fails i l s k =
-      omega (arith, held .attribute-is i l, leb→le limit (attribute (g .width) (g .height) (holds n (touchIn g) (grey f) xs i)) k)
+      omega (arith, a .attribute-is i l, leb→le limit (attribute (g .width) (g .height) (holds n (touchIn g) (grey f) xs i)) k)
 
   not-root : (i : ℕ) → i < count → col ATTRIBUTE n w i < limit → 0 < i
   not-root zero l s = absurd (fails 0 l s (cut-root (tree-grid t) crit (tree-nodes t)))
@@ -115,39 +116,52 @@ module _ {g : Shape} {f w : List ℕ} {count : ℕ} (t : Tree g f w count) (limi
 -- the first i nodes have their values
 pub record Cutting (g : Shape) (f : List ℕ) (count limit : ℕ) (w w′ : List ℕ) (i : ℕ) : Type 0 where
   pub bound : i ≤ count
-  pub valued : Valued (g .pixels) w w′
-  pub tree : Tree g f w′ count
+  pub only : Only VALUE (g .pixels) w w′
+  pub attributed : Attributed g f w′ count
   pub fits : limit ≤ g .pixels
-  pub values : (j : ℕ) → j < i → col VALUE (g .pixels) w′ j ≡ value tree limit fits j
+  pub values : (j : ℕ) → j < i → col VALUE (g .pixels) w′ j ≡ value attributed limit fits j
 
 module _ {g : Shape} {f w : List ℕ} {count limit : ℕ} where
-  pub cutting-first : Tree g f w count → limit ≤ g .pixels → Cutting g f count limit w w 0
-  cutting-first t m =
-      record { bound = omega arith; valued = valued-refl (g .pixels) w; tree = t; fits = m; values = λ j l. absurd (omega arith) }
+  pub cutting-first : Attributed g f w count → limit ≤ g .pixels → Cutting g f count limit w w 0
+  cutting-first a m =
+      record { bound = omega arith; only = only-refl VALUE (g .pixels) w; attributed = a; fits = m; values = λ j l. absurd (omega arith) }
 
   module _ {w′ : List ℕ} {i : ℕ} (a : Cutting g f count limit w w′ i) where
     pub cutting-climbable : i < count → Climbable limit (g .pixels) w′ (suc i)
-    cutting-climbable l = cut-climbable (a .tree) limit (a .fits) i l
+    cutting-climbable l = cut-climbable (a .attributed) limit (a .fits) i l
 
     pub cutting-more : {w″ : List ℕ} {r : ℕ} → i < count → Climbed limit (g .pixels) w′ i i r → Stored w′ w″ (g .pixels) VALUE i r
         → Cutting g f count limit w w″ (i + 1)
     cutting-more l c s = record {
       bound = omega arith;
-      valued = valued-trans (a .valued) (valued-store s);
-      tree = valued-tree (a .tree) (valued-store s);
+      only = only-trans (a .only) (only-store s);
+      attributed = attributed-kept (a .attributed) (only-store s);
       fits = a .fits;
-      values = column-more (value (a .tree) limit (a .fits)) s (omega (arith, few-nodes (a .tree)))
-          (cut-value (a .tree) limit (a .fits) i l (a .values) c) (a .values);
+      values = column-more (value (a .attributed) limit (a .fits)) s (omega (arith, few-nodes (a .attributed .tree)))
+          (cut-value (a .attributed) limit (a .fits) i l (a .values) c) (a .values);
     }
 
-    pub cutting-done : Tree g f w count → count ≤ i → ValuesAre (g .pixels) (cut (g .connectivity) (g .width) (g .height) limit f) w w′
+    pub cutting-done : Attributed g f w count → count ≤ i → ValuesAre (g .pixels) (cut (g .connectivity) (g .width) (g .height) limit f) w w′
     unfolding opened
-    cutting-done t l =
-        let c = crit t limit (a .fits) in
-        let h : ℕ → ℕ = openedAt (g .pixels) (touchIn g) (keep t limit (a .fits)) (grey f) in
+    cutting-done first l =
+        let t = first .tree in
+        let c = crit first limit (a .fits) in
+        let h : ℕ → ℕ = openedAt (g .pixels) (touchIn g) (keep first limit (a .fits)) (grey f) in
         let e : table (g .pixels) h ≡ cut (g .connectivity) (g .width) (g .height) limit f =
         rw (← t .pixels) (sym (cut-is-opened (t .plate) limit (rw (t .pixels) (a .fits)))) in
         rw (← e)
-        (values-are t (a .valued) (value t limit (a .fits)) h (λ j b. a .values j (omega (arith, a .bound)))
+        (values-are t (a .only) (value first limit (a .fits)) h (λ j b. a .values j (omega (arith, a .bound)))
         (λ p b. sym (cut-own (tree-grid t) c (tree-nodes t) p b))
         (λ p b. omega (arith, opened-below (tree-grid t) c (grey f) p, t .plate .greys p (omega (arith, t .pixels)))))
+
+-- by the plate whose greys stood there before the attributes were set
+pub cut-done : {g : Shape} {w w₁ w₂ : List ℕ} {count limit i : ℕ} → AttributesSet g w w₁ count
+    → Cutting g (greysIn (g .pixels) w₁) count limit w₁ w₂ i → count ≤ i
+    → ValuesAre (g .pixels) (cut (g .connectivity) (g .width) (g .height) limit (greysIn (g .pixels) w)) w w₂
+cut-done {g} {limit = limit} s a l =
+    let v = cutting-done a (attributed-here (s .attributed)) l in
+    record {
+      frame = frame-trans (s .only .frame) (v .frame);
+      writable = v .writable;
+      by-pixel = v .by-pixel ∙ ap (cut (g .connectivity) (g .width) (g .height) limit) (tree-plate (s .attributed .tree));
+    }

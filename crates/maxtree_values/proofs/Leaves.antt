@@ -10,35 +10,35 @@ use Rattle.meaning.specs.Maxima.{marks, maximum}
 use Rattle.meaning.specs.Plate.{greatestGrey, grey}
 use Rattle.meaning.specs.Sets.{bit, table}
 use Rattle.theory_lists.proofs.Tests.{choice}
-use Rattle.work_columns.specs.Columns.{Stored, col}
+use Rattle.work_columns.specs.Columns.{Only, Stored, col}
 use Rattle.work_columns.specs.Layout.{PARENT, VALUE, touchIn}
 use Rattle.work_columns.specs.declared.Shape.{Shape}
-use Rattle.work_columns.proofs.Columns.{column-more}
+use Rattle.work_columns.proofs.Columns.{column-more, only-refl, only-store, only-trans}
 use Rattle.maxtree_columns.specs.Tree.{Tree}
 use Rattle.maxtree_columns.proofs.Leaves.{child-here, child-none, child-other, hasChild, leaf-is-maximum}
-use Rattle.maxtree_values.specs.Values.{Ones, Valued, ValuesAre}
-use Rattle.maxtree_values.proofs.Values.{valued-refl, valued-store, valued-trans, values-are}
+use Rattle.maxtree_values.specs.Values.{Ones, ValuesAre}
+use Rattle.maxtree_values.proofs.Values.{values-are}
 
 pub ones-first : {n : ℕ} {w : List ℕ} → Ones n 0 w w
-ones-first {n} {w} = record { valued = valued-refl n w; values = λ i l. absurd (omega arith) }
+ones-first {n} {w} = record { only = only-refl VALUE n w; values = λ i l. absurd (omega arith) }
 
 pub ones-more : {n count i : ℕ} {w w′ w″ : List ℕ} → count ≤ n → Ones n i w w′ → i < count → Stored w′ w″ n VALUE i 1 → Ones n (i + 1) w w″
 ones-more few a l s = record {
-  valued = valued-trans (a .valued) (valued-store s);
+  only = only-trans (a .only) (only-store s);
   values = column-more (λ (j : ℕ). 1) s (omega arith) refl (a .values);
 }
 
 -- the values of all nodes, with the nodes below i as children
 pub record Marking (n count : ℕ) (w w′ : List ℕ) (i : ℕ) : Type 0 where
   pub first : 1 ≤ i
-  pub valued : Valued n w w′
+  pub only : Only VALUE n w w′
   pub values : (j : ℕ) → j < count → col VALUE n w′ j ≡ bit (not (hasChild i (col PARENT n w) j))
 
 module _ {n count : ℕ} {w : List ℕ} where
   pub marking-first : ((j : ℕ) → j < count → col VALUE n w j ≡ 1) → Marking n count w w 1
   marking-first ones = record {
     first = omega arith;
-    valued = valued-refl n w;
+    only = only-refl VALUE n w;
     values = λ j l. ones j l ∙ rw (child-none (col PARENT n w) j);
   }
 
@@ -46,7 +46,7 @@ module _ {n count : ℕ} {w : List ℕ} where
       → Marking n count w w″ (i + 1)
   marking-more {w′} {w″} {i} {m} few a e s = record {
     first = omega arith;
-    valued = valued-trans (a .valued) (valued-store s);
+    only = only-trans (a .only) (only-store s);
     values = λ j l. elim (choice (eqb j m)) [
       | inl t ↦
           (let x : j ≡ col PARENT n w i = eqb→eq j m t ∙ e′ in
@@ -59,7 +59,7 @@ module _ {n count : ℕ} {w : List ℕ} where
   }
     where
       e′ : m ≡ col PARENT n w i
-      e′ = e ∙ rw (a .valued .off PARENT (omega arith) (λ x. omega arith))
+      e′ = e ∙ rw (a .only .off PARENT (omega arith) (λ x. omega arith))
 
 bit-low : (b : Bool) → bit b ≤ greatestGrey
 bit-low true = omega arith
@@ -75,7 +75,7 @@ module _ {g : Shape} {f w : List ℕ} {count : ℕ} (t : Tree g f w count) where
       let h : ℕ → ℕ = λ (q : ℕ). bit (maximum n (touchIn g) (grey f) q) in
       let e : table n h ≡ marks (g .connectivity) (g .width) f = rw (t .pixels) in
       rw (← e)
-      (values-are t (valued-trans (o .valued) (a .valued)) (λ (j : ℕ). bit (not (hasChild count (col PARENT n w) j))) h
-      (λ j c. rw (← x, ← o .valued .off PARENT (omega arith) (λ y. omega arith)) (a .values j c))
+      (values-are t (only-trans (o .only) (a .only)) (λ (j : ℕ). bit (not (hasChild count (col PARENT n w) j))) h
+      (λ j c. rw (← x, ← o .only .off PARENT (omega arith) (λ y. omega arith)) (a .values j c))
       (λ q c. ap bit (leaf-is-maximum t q c))
       (λ q c. bit-low (maximum n (touchIn g) (grey f) q)))

@@ -1,5 +1,4 @@
--- Laws of values by node, and of lists that are written from the front.
-pub mod Tables
+-- Laws of values by node.
 pub mod Values
 pub mod Cuts
 pub mod Leaves

@@ -7,14 +7,9 @@ use lib.ListN.{length, drop, replicate}
 use Rattle.meaning.specs.Answers.{over}
 use Rattle.meaning.specs.Plate.{greatestGrey}
 use Rattle.meaning.specs.Sets.{table}
-use Rattle.work_columns.specs.Columns.{Frame, Room, col}
+use Rattle.work_columns.specs.Columns.{Frame, Only, Room, col}
 use Rattle.work_columns.specs.Layout.{ATTRIBUTE, LEVEL, OWN, PARENT, VALUE}
 use Rattle.plate_greys.specs.Sides.{sidePlate}
-
--- w′ is w but for the column VALUE
-pub record Valued (n : ℕ) (w w′ : List ℕ) : Type 0 where
-  pub frame : Frame n w w′
-  pub off : (d : ℕ) → d < 8 → (d ≡ VALUE → ⊥) → col d n w′ ≡ col d n w
 
 -- the value of the own node of pixel p, and those of all pixels as a plate
 abbrev pub valueAt : ℕ → List ℕ → ℕ → ℕ
@@ -31,7 +26,7 @@ pub record Writable (n : ℕ) (w : List ℕ) : Type 0 where
 
 -- the nodes are given their values, which by pixel are the plate `answer`
 pub record ValuesAre (n : ℕ) (answer w w′ : List ℕ) : Type 0 where
-  pub valued : Valued n w w′
+  pub frame : Frame n w w′
   pub writable : Writable n w′
   pub by-pixel : valuesIn n w′ ≡ answer
 
@@ -58,7 +53,7 @@ pub record Climbed (limit n : ℕ) (w : List ℕ) (settled i r : ℕ) : Type 0 w
 -- ---- nodes without a child
 
 pub record Ones (n count : ℕ) (w w′ : List ℕ) : Type 0 where
-  pub valued : Valued n w w′
+  pub only : Only VALUE n w w′
   pub values : (i : ℕ) → i < count → col VALUE n w′ i ≡ 1
 
 -- ---- writing

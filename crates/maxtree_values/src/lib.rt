@@ -61,13 +61,14 @@ fn cut_value(w: &[u32], n: usize, limit: usize, i: usize) -> usize
     climb(w, n, limit, i, parent)
 }
 
-// Gives each node its value in the cut of the plate at the limit.
+// Gives each node its attribute, and then its value in the cut of the plate at the limit.
 pub fn cut_values(w: &mut [u32], g: Shape, count: usize, limit: usize)
     requires { ⌜ TreeStands g (now w) count ⌝ }
     requires { ⌜ limit ≤ g .pixels ⌝ }
     ensures { λ _. ⌜ ValuesAre (g .pixels) (cut (g .connectivity) (g .width) (g .height) limit (greysIn (g .pixels) (now (w .entry))))
         (now (w .entry)) (now (w .exit)) ⌝ }
 {
+    maxtree_attribute::set_attributes(w, g, count);
     let mut i: usize = 0;
     while i < count {
         let v = cut_value(w, g.pixels, limit, i);

@@ -1,4 +1,5 @@
--- Laws of columns: a store at an entry of a column changes only that place; frames compose; two columns that agree are equal.
+-- Laws of columns: a store at an entry of a column changes only that place; frames compose, and so do changes of one column; two columns that agree
+-- are equal.
 use mathlib.Core.Path.{_≡_, refl, sym, ap, _∙_, fun-ext}
 use mathlib.Core.Logic.{inl, inr}
 use mathlib.Core.Bool.{true}
@@ -14,7 +15,7 @@ use Rattle.meaning.specs.Answers.{workAfter}
 use Rattle.meaning.specs.Plate.{grey}
 use Rattle.meaning.specs.Sets.{pick}
 use Rattle.theory_lists.proofs.Tests.{choice, pick-no, pick-yes}
-use Rattle.work_columns.specs.Columns.{Frame, Room, Stored, col}
+use Rattle.work_columns.specs.Columns.{Frame, Only, Room, Stored, col}
 
 pub frame-refl : (n : ℕ) (w : List ℕ) → Frame n w w
 frame-refl n w = record { len = refl; tail = refl }
@@ -67,6 +68,17 @@ stored {w} {n} r c i v hc hi = record {
   };
   off = λ d b x. col-same d n w (set w (c * n + i) v) (λ p l. getD-set-other w (c * n + i) (d * n + p) v 0 (places n d c p i x l hi));
 }
+
+-- ---- one column that changes
+
+pub only-refl : (c n : ℕ) (w : List ℕ) → Only c n w w
+only-refl c n w = record { frame = frame-refl n w; off = λ d l x. refl }
+
+pub only-trans : {c n : ℕ} {w w′ w″ : List ℕ} → Only c n w w′ → Only c n w′ w″ → Only c n w w″
+only-trans a b = record { frame = frame-trans (a .frame) (b .frame); off = λ d l x. b .off d l x ∙ a .off d l x }
+
+pub only-store : {c n i v : ℕ} {w w′ : List ℕ} → Stored w w′ n c i v → Only c n w w′
+only-store s = record { frame = s .frame; off = s .off }
 
 -- ---- columns that are filled, or that are a plate
 

@@ -27,6 +27,11 @@ pub record Frame (n : ℕ) (w w′ : List ℕ) : Type 0 where
   pub len : length w′ ≡ length w
   pub tail : drop (8 * n) w′ ≡ drop (8 * n) w
 
+-- w′ is w but for column c
+pub record Only (c n : ℕ) (w w′ : List ℕ) : Type 0 where
+  pub frame : Frame n w w′
+  pub off : (d : ℕ) → d < 8 → (d ≡ c → ⊥) → col d n w′ ≡ col d n w
+
 -- w′ is w with v at entry i of column c
 pub record Stored (w w′ : List ℕ) (n c i v : ℕ) : Type 0 where
   pub frame : Frame n w w′

@@ -53,8 +53,8 @@ FIRST = 6
 abbrev pub NUMBER : ℕ
 NUMBER = 4
 
--- by node: its parent (until the parents are numbered, by its number in the order of flooding), its area; what is held against the limit, its
--- attribute: the area; a free column for an operation
+-- by node: its parent (until the parents are numbered, by its number in the order of flooding), its area; for an operation, what is held against the
+-- limit, its attribute, in the place of the anchor in the order of flooding, and a free column
 abbrev pub PARENT : ℕ
 PARENT = 5
 
@@ -62,7 +62,7 @@ abbrev pub AREA : ℕ
 AREA = 7
 
 abbrev pub ATTRIBUTE : ℕ
-ATTRIBUTE = AREA
+ATTRIBUTE = 6
 
 abbrev pub VALUE : ℕ
 VALUE = 4

@@ -49,12 +49,12 @@ pub const FIRST: usize = 6;
 
 pub const NUMBER: usize = 4;
 
-// By node: its parent, its area; what is held against the limit; a free column for an operation.
+// By node: its parent, its area; for an operation, what is held against the limit, and a free column.
 pub const PARENT: usize = 5;
 
 pub const AREA: usize = 7;
 
-pub const ATTRIBUTE: usize = 7;
+pub const ATTRIBUTE: usize = 6;
 
 pub const VALUE: usize = 4;
 

@@ -4,8 +4,8 @@ use native.Mathlib.Omega.{arith}
 use Rattle.maxtree_values.proofs.cut_values.Statement.{statement}
 use Rattle.maxtree_values.proofs.cut_values.Tie as tie
 use Rattle.work_columns.specs.Layout.{greysIn}
-use Rattle.maxtree_columns.proofs.Tree.{few-nodes}
-use Rattle.maxtree_values.proofs.Cuts.{Cutting, cutting-climbable, cutting-done, cutting-first, cutting-more}
+use Rattle.maxtree_columns.proofs.Tree.{attributed-here, few-nodes}
+use Rattle.maxtree_values.proofs.Cuts.{Cutting, cut-done, cutting-climbable, cutting-first, cutting-more}
 
 abbrev Inv-loop : tie.InvT-loop
 Inv-loop w₀ g count limit i₀ w i = Cutting g (greysIn (g .pixels) w₀) count limit w₀ w i
@@ -13,8 +13,13 @@ Inv-loop w₀ g count limit i₀ w i = Cutting g (greysIn (g .pixels) w₀) coun
 abbrev μ-loop : tie.MeasureT-loop
 μ-loop w₀ g count limit i₀ w i = count - i
 
+set-attributes-requires : tie.Need-set-attributes-requires Inv-loop μ-loop
+set-attributes-requires c κs = c .before .before .pre .0
+
 loop-holds : tie.Need-loop-holds Inv-loop μ-loop
-loop-holds c = cutting-first (c .before .pre .0) (c .before .pre .1)
+loop-holds c =
+    let set = c .before .before in
+    cutting-first (attributed-here (set .set-attributes .ensures .attributed)) (set .before .before .before .pre .1)
 
 cut-value-requires : tie.Need-cut-value-requires Inv-loop μ-loop
 cut-value-requires c κs = cutting-climbable (c .before .before .loop .inv) (c .before .loop-test .taken)
@@ -22,12 +27,13 @@ cut-value-requires c κs = cutting-climbable (c .before .before .loop .inv) (c .
 put-requires : tie.Need-put-requires Inv-loop μ-loop
 put-requires c κs =
     let a = c .before .before .before .before .loop .inv in
-    (a .tree .room, (omega arith, (omega (arith, c .before .before .before .loop-test .taken, few-nodes (a .tree)), c .before .cut-value .ensures .fits)))
+    let t = a .attributed .tree in
+    (t .room, (omega arith, (omega (arith, c .before .before .before .loop-test .taken, few-nodes t), c .before .cut-value .ensures .fits)))
 
 add-i : tie.Need-add-i Inv-loop μ-loop
 add-i c =
-    let a = c .before .before .before .before .before .before .before .loop .inv in
-    omega (arith, few-nodes (a .tree), a .tree .room .small)
+    let t = c .before .before .before .before .before .before .before .loop .inv .attributed .tree in
+    omega (arith, few-nodes t, t .room .small)
 
 loop-less : tie.Need-loop-less Inv-loop μ-loop
 loop-less c = omega arith
@@ -38,10 +44,11 @@ loop-again c =
     cutting-more (l .before .loop .inv) (l .loop-test .taken) (c .before .before .before .before .cut-value .ensures) (c .before .before .put .ensures)
 
 same-length : tie.Need-same-length Inv-loop μ-loop
-same-length c = c .before .loop .inv .valued .frame .len
+same-length c =
+    omega (arith, c .before .loop .inv .only .frame .len, c .before .before .before .before .set-attributes .ensures .only .frame .len)
 
 returns : tie.Need-returns Inv-loop μ-loop
-returns c = cutting-done (c .before .loop .inv) (c .before .before .before .pre .0) (c .loop-test .left)
+returns c = cut-done (c .before .before .before .before .set-attributes .ensures) (c .before .loop .inv) (c .loop-test .left)
 
 pub cut-values-spec : {M : Type 1} → statement M
 cut-values-spec =
@@ -49,6 +56,7 @@ cut-values-spec =
     (tie.spec
     Inv-loop
     μ-loop
+    set-attributes-requires
     loop-holds
     cut-value-requires
     put-requires

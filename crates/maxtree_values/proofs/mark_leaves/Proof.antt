@@ -3,9 +3,9 @@ use Prim.Native.Nat.{_-_, _≤_}
 use native.Mathlib.Omega.{arith}
 use Rattle.maxtree_values.proofs.mark_leaves.Statement.{statement}
 use Rattle.maxtree_values.proofs.mark_leaves.Tie as tie
+use Rattle.work_columns.proofs.Columns.{only-store}
 use Rattle.maxtree_columns.specs.Tree.{TreeStands}
-use Rattle.maxtree_columns.proofs.Tree.{few-nodes, parent-earlier, some-nodes, tree-here}
-use Rattle.maxtree_values.proofs.Values.{valued-store, valued-tree}
+use Rattle.maxtree_columns.proofs.Tree.{few-nodes, parent-earlier, some-nodes, tree-here, tree-valued}
 use Rattle.maxtree_values.proofs.Leaves.{Marking, marking-done, marking-first, marking-more}
 
 abbrev Inv-loop : tie.InvT-loop
@@ -21,7 +21,7 @@ loop-holds : tie.Need-loop-holds Inv-loop μ-loop
 loop-holds c =
     let o = c .before .before .set-ones .ensures in
     let t = c .before .before .before .before .before .pre in
-    (some-nodes t, tree-here (valued-tree t (o .valued)), marking-first (o .values))
+    (some-nodes t, tree-here (tree-valued t (o .only)), marking-first (o .values))
 
 get-requires : tie.Need-get-requires Inv-loop μ-loop
 get-requires c κs =
@@ -49,13 +49,13 @@ loop-again c =
     let l = c .before .before .before .before .before .before .before .loop in
     let s = c .before .before .put .ensures in (
       omega arith,
-      tree-here (valued-tree (l .inv .1) (valued-store s)),
+      tree-here (tree-valued (l .inv .1) (only-store s)),
       marking-more (few-nodes (l .inv .1)) (l .inv .2) (c .before .before .before .before .get .ensures .0) s,
     )
 
 same-length : tie.Need-same-length Inv-loop μ-loop
 same-length c =
-    omega (arith, c .before .loop .inv .2 .valued .frame .len, c .before .before .before .before .set-ones .ensures .valued .frame .len)
+    omega (arith, c .before .loop .inv .2 .only .frame .len, c .before .before .before .before .set-ones .ensures .only .frame .len)
 
 returns : tie.Need-returns Inv-loop μ-loop
 returns c =

@@ -22,7 +22,7 @@ put-requires : tie.Need-put-requires Inv-loop μ-loop
 put-requires c κs =
     let l = c .before .before in
     let t = l .before .before .pre in
-    (frame-room (t .room) (l .loop .inv .1 .valued .frame), (omega arith, (omega (arith, few-nodes t), omega arith)))
+    (frame-room (t .room) (l .loop .inv .1 .only .frame), (omega arith, (omega (arith, few-nodes t), omega arith)))
 
 add-i : tie.Need-add-i Inv-loop μ-loop
 add-i c = omega arith
@@ -38,7 +38,7 @@ loop-again c =
     )
 
 same-length : tie.Need-same-length Inv-loop μ-loop
-same-length c = c .before .loop .inv .1 .valued .frame .len
+same-length c = c .before .loop .inv .1 .only .frame .len
 
 returns : tie.Need-returns Inv-loop μ-loop
 returns c = let x : c .before .loop .i ≡ c .before .before .before .args .count = omega arith in rw x at (c .before .loop .inv .1)

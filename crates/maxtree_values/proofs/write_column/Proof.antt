@@ -8,8 +8,8 @@ use lib.ListN.{length, drop, length-set}
 use Rattle.maxtree_values.proofs.write_column.Statement.{statement}
 use Rattle.maxtree_values.proofs.write_column.Tie as tie
 use Rattle.meaning.specs.Sets.{span, table}
+use Rattle.theory_lists.proofs.Written.{written-more, written-over}
 use Rattle.work_columns.specs.Columns.{col}
-use Rattle.maxtree_values.proofs.Tables.{written-more, written-over}
 
 abbrev Inv-loop : tie.InvT-loop
 Inv-loop w n c count out₀ i₀ out i = (i ≤ count) × (length out ≡ length out₀) × (out ≡ table i (col c n w) ++ drop i out₀)

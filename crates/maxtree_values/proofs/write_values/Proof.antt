@@ -9,10 +9,10 @@ use lib.ListN.{length, drop, length-set}
 use Rattle.maxtree_values.proofs.write_values.Statement.{statement}
 use Rattle.maxtree_values.proofs.write_values.Tie as tie
 use Rattle.meaning.specs.Sets.{span, table}
+use Rattle.theory_lists.proofs.Written.{written-more, written-over}
 use Rattle.plate_greys.specs.Sides.{sideGrey}
 use Rattle.plate_greys.proofs.Sides.{side-plate-table}
 use Rattle.maxtree_values.specs.Values.{valueAt}
-use Rattle.maxtree_values.proofs.Tables.{written-more, written-over}
 
 -- what is written at pixel p
 abbrev written : Bool → ℕ → List ℕ → ℕ → ℕ

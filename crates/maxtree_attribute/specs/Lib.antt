@@ -1,0 +1,2 @@
+-- What is held against the limit, by node.
+pub mod Attributes
