@@ -6,7 +6,7 @@ use native.Mathlib.Omega.{arith}
 use lib.ListN.{length, set, length-append, length-drop}
 use Rattle.meaning.specs.Sets.{table}
 use Rattle.theory_lists.proofs.Lists.{length-table}
-use Rattle.maxtree_values.proofs.Tables.{written-more}
+use Rattle.theory_lists.proofs.Written.{written-more}
 use Rattle.plate_entries.specs.declared.Node.{Node}
 use Rattle.plate_entries.specs.Entries.{overNodes}
 

@@ -73,7 +73,7 @@ module _ {g : Shape} (k w h : ℕ) (f : List ℕ) (shape : g ≡ shapeOf (length
           → PlateAnswered k w h f refusal (sidePlate negated answer) out out′ work w₃ 0
       answered e z d =
           let written : valuesIn (length f) w₂ ≡ answer = rw pixels-are at (v .by-pixel) in
-          let frame : Frame (length f) work w₂ = frame-trans (p .frame) (rw pixels-are at (v .valued .frame)) in
+          let frame : Frame (length f) work w₂ = frame-trans (p .frame) (rw pixels-are at (v .frame)) in
           record {
             number = sym z ∙ e;
             output = d .written ∙ rw written;

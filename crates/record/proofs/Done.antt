@@ -10,7 +10,7 @@ use Rattle.meaning.specs.Cut.{cut, darkest}
 use Rattle.work_columns.specs.Columns.{Room}
 use Rattle.work_columns.specs.Layout.{greysIn, shapeOf}
 use Rattle.work_columns.specs.declared.Shape.{Shape}
-use Rattle.work_columns.proofs.Columns.{cleared, frame-trans}
+use Rattle.work_columns.proofs.Columns.{cleared, frame-room, frame-trans}
 use Rattle.theory_connectivity.proofs.Sizes.{grid-sizes}
 use Rattle.maxtree_columns.specs.Tree.{TreeStands}
 use Rattle.maxtree_columns.proofs.Tree.{few-nodes}
@@ -81,7 +81,7 @@ module _ {P : Parsed} {wd ht k count : ℕ} {work w₁ : List ℕ} (t : TreeFoun
             rw (t .is) (record {
               answer = rw y;
               output = rw (y, ← values .by-pixel) (d .written);
-              space = cleared (frame-trans (t .frame) (values .valued .frame)) (d .cleared);
+              space = cleared (frame-trans (t .frame) (values .frame)) (d .cleared);
             })
 
     -- ---- the size list
@@ -96,17 +96,20 @@ module _ {P : Parsed} {wd ht k count : ℕ} {work w₁ : List ℕ} (t : TreeFoun
           let (fit, _) = tables-none (wd * ht) (length counted) (length lost) 0 (sym e ∙ z) in
           rw pixels-are (record { counts-fit = fit .0; losses-fit = fit .1 })
 
-      pub sizes-done : {counted′ lost′ w₂ : List ℕ} {d : ℕ} → SizesWritten g w₁ counted counted′ lost lost′ → d ≡ darkest (greysIn (g .pixels) w₁)
-          → w₂ ≡ replicate (8 * (wd * ht)) 0 ++ drop (8 * (wd * ht)) w₁
-          → ListedSizes P counted counted′ lost lost′ work w₂
-          (record { refusal = 0; width = wd; height = ht; connectivity = k; nodes = count; darkest = d })
-      sizes-done {counted′} {lost′} {d = d} s dark c =
+      pub sizes-room : {counted′ lost′ w₂ : List ℕ} {x : ℕ} → SizesWritten g w₁ w₂ counted counted′ lost lost′ x → Room w₂ (wd * ht)
+      sizes-room s = frame-room tree-room (rw pixels-are at (s .frame))
+
+      pub sizes-done : {counted′ lost′ w₂ w₃ : List ℕ} {d x : ℕ} → d ≡ darkest (greysIn (g .pixels) w₁)
+          → SizesWritten g w₁ w₂ counted counted′ lost lost′ x → w₃ ≡ replicate (8 * (wd * ht)) 0 ++ drop (8 * (wd * ht)) w₂
+          → ListedSizes P counted counted′ lost lost′ work w₃
+          (record { refusal = 0; width = wd; height = ht; connectivity = k; nodes = count; darkest = d; held = x })
+      sizes-done {counted′} {lost′} {w₂} {d = d} {x} dark s c =
           let y : tablesRefusal (wd * ht) (length counted) (length lost) 0 ≡ 0 = sym e ∙ z in
-          let s′ : SizesWritten (shapeOf (wd * ht) wd ht k) w₁ counted counted′ lost lost′ = rw shape at s in
+          let s′ : SizesWritten (shapeOf (wd * ht) wd ht k) w₁ w₂ counted counted′ lost lost′ x = rw shape at s in
           let dark′ : d ≡ darkest (greysIn (wd * ht) w₁) = rw shape at dark in
           rw (t .is) (record {
-            answer = rw (y, t .tree .nodes, dark′);
-            count-table = rw y (s′ .counted-is);
-            loss-table = rw y (s′ .lost-is);
-            space = cleared (t .frame) c;
+            answer = rw (y, t .tree .nodes, dark′, s′ .listed .held-is);
+            count-table = rw y (s′ .listed .counted-is);
+            loss-table = rw y (s′ .listed .lost-is);
+            space = cleared (frame-trans (t .frame) (s′ .frame)) c;
           })

@@ -27,7 +27,7 @@ abbrev pub noHead : ℕ → Head
 noHead number = record { refusal = number; width = 0; height = 0; connectivity = 0 }
 
 abbrev pub noSizes : ℕ → SizeHead
-noSizes number = record { refusal = number; width = 0; height = 0; connectivity = 0; nodes = 0; darkest = 0 }
+noSizes number = record { refusal = number; width = 0; height = 0; connectivity = 0; nodes = 0; darkest = 0; held = 0 }
 
 -- ---- up to 24
 

@@ -7,7 +7,7 @@ use lib.Dec.{eqb}
 use lib.ListN.{length}
 use Rattle.meaning.specs.Sets.{pick}
 use Rattle.meaning.specs.Nodes.{nodesOf}
-use Rattle.meaning.specs.Cut.{cut, counts, losses, darkest}
+use Rattle.meaning.specs.Cut.{cut, counts, losses, darkest, held}
 use Rattle.meaning.specs.Answers.{limitRefusal, outRefusal, tablesRefusal, outAfter, workAfter}
 use Rattle.record_parse.specs.Parse.{Parsed, early, late, plate}
 use Rattle.record.specs.declared.Head.{Head}
@@ -61,8 +61,8 @@ abbrev pub sizeRefusal : Parsed → ℕ → ℕ → ℕ
 sizeRefusal p countPlaces lossPlaces = parsedRefusal p λ w h. tablesRefusal (w * h) countPlaces lossPlaces 0
 
 abbrev pub sizeHeadOf : ℕ → Parsed → SizeHead
-sizeHeadOf refusal (early number) = record { refusal = refusal; width = 0; height = 0; connectivity = 0; nodes = 0; darkest = 0 }
-sizeHeadOf refusal (late number pixels) = record { refusal = refusal; width = 0; height = 0; connectivity = 0; nodes = 0; darkest = 0 }
+sizeHeadOf refusal (early number) = record { refusal = refusal; width = 0; height = 0; connectivity = 0; nodes = 0; darkest = 0; held = 0 }
+sizeHeadOf refusal (late number pixels) = record { refusal = refusal; width = 0; height = 0; connectivity = 0; nodes = 0; darkest = 0; held = 0 }
 sizeHeadOf refusal (plate k w h f) =
     let met = eqb refusal 0 in
     record {
@@ -72,6 +72,7 @@ sizeHeadOf refusal (plate k w h f) =
       connectivity = pick met k 0;
       nodes = pick met (length (nodesOf k w f)) 0;
       darkest = pick met (darkest f) 0;
+      held = pick met (held k w h f) 0;
     }
 
 abbrev pub countsOut : Parsed → ℕ → List ℕ → List ℕ

@@ -22,7 +22,7 @@ pub struct Head {
     pub connectivity: u32,
 }
 
-// What the size list answers: also the number of nodes and the darkest grey.
+// What the size list answers: also the number of nodes, the darkest grey and the grey held on the trim edge.
 #[repr(C)]
 pub struct SizeHead {
     pub refusal: u32,
@@ -31,6 +31,7 @@ pub struct SizeHead {
     pub connectivity: u32,
     pub nodes: u32,
     pub darkest: u32,
+    pub held: u64,
 }
 
 // The answers that refuse: the number, and zeros elsewhere.
@@ -55,7 +56,7 @@ fn refused_head(number: u32) -> Head
 }
 
 fn refused_sizes(number: u32) -> SizeHead
-    ensures { λ r. ⌜ r ≡ record { refusal = number; width = 0; height = 0; connectivity = 0; nodes = 0; darkest = 0 } ⌝ }
+    ensures { λ r. ⌜ r ≡ record { refusal = number; width = 0; height = 0; connectivity = 0; nodes = 0; darkest = 0; held = 0 } ⌝ }
 {
     SizeHead {
         refusal: number,
@@ -64,6 +65,7 @@ fn refused_sizes(number: u32) -> SizeHead
         connectivity: 0,
         nodes: 0,
         darkest: 0,
+        held: 0,
     }
 }
 
@@ -151,7 +153,7 @@ pub fn cut_record(bytes: &[u8], limit: u32, out: &mut [u8], work: &mut [u32]) ->
     }
 }
 
-// Lists the sizes of a record's nodes: by area, their number and the grey lost.
+// Lists the sizes of a record's nodes off the trim edge: by area, their number and the grey lost.
 pub fn size_list(bytes: &[u8], counts: &mut [u32], losses: &mut [u64], work: &mut [u32]) -> SizeHead
     ensures { λ r. ⌜ ListedSizes (readOf (now (bytes .entry)) (length (now (work .entry))))
         (now (counts .entry)) (now (counts .exit)) (now (losses .entry)) (now (losses .exit)) (now (work .entry)) (now (work .exit)) r ⌝ }
@@ -167,8 +169,8 @@ pub fn size_list(bytes: &[u8], counts: &mut [u32], losses: &mut [u64], work: &mu
         return refused_sizes(refusal);
     }
     let g = work_columns::shape_of(n, width, height, connectivity);
-    record_sizes::list_sizes(work, g, count, counts, losses);
     let darkest = record_sizes::darkest_of(work, g, count);
+    let held = record_sizes::list_sizes(work, g, count, counts, losses);
     work_columns::clear(work, n);
     SizeHead {
         refusal: 0,
@@ -177,5 +179,6 @@ pub fn size_list(bytes: &[u8], counts: &mut [u32], losses: &mut [u64], work: &mu
         connectivity: connectivity,
         nodes: count as u32,
         darkest: darkest,
+        held: held,
     }
 }

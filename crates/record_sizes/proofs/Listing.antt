@@ -5,26 +5,27 @@ use mathlib.Core.List.{List, _++_}
 use Prim.Native.Nat.{ℕ, zero, suc, _+_, _-_, _*_, _≤_, _<_}
 use native.Mathlib.Nat.{mul-le-mul}
 use native.Mathlib.Omega.{arith}
-use lib.Dec.{eqb, eqb→eq}
+use lib.Dec.{eqb, eqb→eq, leb}
 use lib.ListN.{length, getD, set, drop, length-set}
 use Rattle.meaning.specs.Answers.{over}
-use Rattle.meaning.specs.Cut.{countAt, counts, losses, lostAt}
+use Rattle.meaning.specs.Cut.{countAt, counts, held, losses, lostAt}
 use Rattle.meaning.specs.Nodes.{areaOf, holds, parent, rise}
 use Rattle.meaning.specs.Opening.{attribute}
 use Rattle.meaning.specs.Plate.{grey}
 use Rattle.meaning.specs.Sets.{pick, span, sum, table}
 use Rattle.theory_lists.proofs.Lists.{table-same}
+use Rattle.theory_lists.proofs.Sums.{sum-cong}
 use Rattle.theory_lists.proofs.Tests.{pick-no}
+use Rattle.theory_lists.proofs.Written.{written-more, written-over}
 use Rattle.theory_tree.proofs.Nodes.{parent-below}
 use Rattle.theorems.proofs.Plates.{plate-some}
-use Rattle.theorems.proofs.Theorems.{lost-is-sum}
+use Rattle.theorems.proofs.Theorems.{held-is-sum, lost-is-sum}
 use Rattle.work_columns.specs.Columns.{col}
 use Rattle.work_columns.specs.Layout.{AREA, ATTRIBUTE, LEVEL, PARENT, touchIn}
 use Rattle.work_columns.specs.declared.Shape.{Shape}
-use Rattle.maxtree_columns.specs.Tree.{Tree, nodesIn}
-use Rattle.maxtree_columns.proofs.Tree.{area-part, attribute-root, attribute-some, level-low, tree-attributed, tree-grid, tree-nodes}
-use Rattle.maxtree_values.proofs.Tables.{written-more, written-over}
-use Rattle.record_sizes.specs.Sizes.{TableOf, byAttribute, lossOf, ones, tally, zeros}
+use Rattle.maxtree_columns.specs.Tree.{Attributed, Tree, nodesIn}
+use Rattle.maxtree_columns.proofs.Tree.{area-part, attribute-root, attribute-some, level-low, tree-grid, tree-nodes}
+use Rattle.record_sizes.specs.Sizes.{TableOf, byAttribute, heldBy, heldOf, lossOf, ones, tally, zeros}
 use Rattle.record_sizes.proofs.Tally.{over-drop, tallies-at, tallies-more, tallies-none, tallies-past, tally-cong, tally-le, tally-one}
 
 -- ---- the tables cleared
@@ -50,7 +51,7 @@ over-again m g h d t e =
     sym (written-over m h t) ∙ ap (λ (l : List ℕ). table m h ++ l) (ap (drop m) e ∙ over-drop m g d) ∙ written-over m h d
 
 -- what is written over zeros is written over what they stand in place of
-pub over-zeros : (d : List ℕ) {d₁ : List ℕ} (m : ℕ) (g : ℕ → ℕ) → d₁ ≡ over (zeros m) d → over (table m g) d₁ ≡ over (table m g) d
+over-zeros : (d : List ℕ) {d₁ : List ℕ} (m : ℕ) (g : ℕ → ℕ) → d₁ ≡ over (zeros m) d → over (table m g) d₁ ≡ over (table m g) d
 over-zeros d {d₁} m g e = over-again m (λ (j : ℕ). 0) g d d₁ e
 
 pub zeros-there : (d : List ℕ) {d₁ : List ℕ} (m : ℕ) → d₁ ≡ over (zeros m) d → d₁ ≡ over (zeros m) d₁
@@ -71,6 +72,25 @@ module _ (n : ℕ) (w : List ℕ) (j : ℕ) {p a l b : ℕ} (ep : p ≡ col PARE
   below-low r = omega (arith, el, below-is)
 
 module _ {g : Shape} {f w : List ℕ} {count : ℕ} (t : Tree g f w count) where
+  -- a node's loss is small
+  pub loss-low : (j : ℕ) → 0 < j → j < count → lossOf (g .pixels) w j ≤ 4278190080
+  loss-low j h l =
+      mul-le-mul {n₁ = col AREA (g .pixels) w j} {m₁ = col LEVEL (g .pixels) w j - col LEVEL (g .pixels) w (col PARENT (g .pixels) w j)}
+      {n₂ = 16777216} {m₂ = 255}
+      (omega (arith, area-part t j h l, t .room .small))
+      (omega (arith, level-low t j l))
+
+  -- in the plate's words
+  loss-node : (j : ℕ) → suc j < count
+      → lossOf (g .pixels) w (suc j)
+      ≡ areaOf (g .pixels) (touchIn g) (grey f) (nodesIn g f) (suc j) * rise (g .pixels) (touchIn g) (grey f) (nodesIn g f) (suc j)
+  unfolding rise
+  loss-node j l =
+      let p : ℕ = parent (g .pixels) (touchIn g) (grey f) (nodesIn g f) (suc j) in
+      let below : p < count = omega (arith, parent-below (tree-grid t) (tree-nodes t) (suc j) (omega arith)) in
+      rw (t .area-is (suc j) l, t .level-is (suc j) l, t .parent-is (suc j) l, t .level-is p below)
+
+module _ {g : Shape} {f w : List ℕ} {count : ℕ} (t : Attributed g f w count) where
   abbrev n : ℕ
   n = g .pixels
 
@@ -79,13 +99,6 @@ module _ {g : Shape} {f w : List ℕ} {count : ℕ} (t : Tree g f w count) where
 
   abbrev xs : List ℕ
   xs = nodesIn g f
-
-  -- a node's loss is small
-  pub loss-low : (j : ℕ) → 0 < j → j < count → lossOf n w j ≤ 4278190080
-  loss-low j h l =
-      mul-le-mul {n₁ = col AREA n w j} {m₁ = col LEVEL n w j - col LEVEL n w (col PARENT n w j)} {n₂ = 16777216} {m₂ = 255}
-      (omega (arith, area-part t j h l, t .room .small))
-      (omega (arith, level-low t j l))
 
   -- a node whose attribute is less than the pixels is not the root
   pub inner : (j : ℕ) → j < count → col ATTRIBUTE n w j < n → 0 < j
@@ -98,7 +111,8 @@ module _ {g : Shape} {f w : List ℕ} {count : ℕ} (t : Tree g f w count) where
     -- at no place of the table
     pub added-past : n ≤ a → d ≡ over (byAttribute n w v (j + 1)) d
     added-past h =
-        table-of .tallies ∙ ap (λ (x : List ℕ). over x d) (sym (tallies-past (col ATTRIBUTE n w) v (n - 1) j (omega (arith, t .pixels, plate-some (t .plate)))))
+        let some : 0 < n = omega (arith, t .tree .pixels, plate-some (t .tree .plate)) in
+        table-of .tallies ∙ ap (λ (x : List ℕ). over x d) (sym (tallies-past (col ATTRIBUTE n w) v (n - 1) j (omega (arith, some))))
 
     -- at the place of its attribute
     module _ (h : a < n) where
@@ -173,56 +187,69 @@ module _ {g : Shape} {w : List ℕ} {count : ℕ} (v : ℕ → ℕ) {d : List �
     pub listing-done : count ≤ j → d′ ≡ over (byAttribute (g .pixels) w v count) d
     listing-done l = let x : j ≡ count = omega (arith, a .bound) in rw x at (a .made)
 
+-- a table that was cleared, and that the first k nodes have added to
+pub listing-over : (n : ℕ) (w : List ℕ) (v : ℕ → ℕ) (k : ℕ) (d : List ℕ) {d₁ d₂ ys : List ℕ}
+    → d₁ ≡ over (zeros (n - 1)) d → d₂ ≡ over (byAttribute n w v k) d₁ → byAttribute n w v k ≡ ys → d₂ ≡ over ys d
+listing-over n w v k d {d₁} {d₂} {ys} z e y =
+    e ∙ over-zeros d (n - 1) (λ (i : ℕ). tally (col ATTRIBUTE n w) v k (suc i)) z ∙ ap (λ (x : List ℕ). over x d) y
+
 -- ---- what is listed of the plate
 
-module _ {g : Shape} {f w : List ℕ} {count : ℕ} (t : Tree g f w count) where
-  abbrev held : ℕ → ℕ
-  held j = attribute (g .width) (g .height) (holds (n t) (near t) (grey f) (xs t) j)
+module _ {g : Shape} {f w : List ℕ} {count : ℕ} (t : Attributed g f w count) where
+  -- the attribute of node j
+  abbrev att : ℕ → ℕ
+  att j = attribute (g .width) (g .height) (holds (n t) (near t) (grey f) (xs t) j)
 
-  is-held : (j : ℕ) → j < count → col ATTRIBUTE (n t) w j ≡ held j
-  is-held = tree-attributed t .attribute-is
+  -- the grey lost with it
+  abbrev loss : ℕ → ℕ
+  loss j = areaOf (n t) (near t) (grey f) (xs t) j * rise (n t) (near t) (grey f) (xs t) j
 
   pub listed-counts : byAttribute (n t) w ones count ≡ counts (g .connectivity) (g .width) (g .height) f
   unfolding counts countAt
   listed-counts =
       table-same (n t - 1) (λ (i : ℕ). tally (col ATTRIBUTE (n t) w) ones count (suc i))
       (λ (i : ℕ). countAt (n t) (near t) (grey f) (xs t) (attribute (g .width) (g .height)) (suc i)) (λ i l.
-      tally-cong (col ATTRIBUTE (n t) w) ones held ones count (suc i) (λ j h. rw (is-held j h))
-      ∙ ap (λ (c : ℕ). tally held ones c (suc i)) (t .nodes) ∙ tally-one held (length (xs t)) (suc i))
-      ∙ rw (t .pixels)
+      tally-cong (col ATTRIBUTE (n t) w) ones att ones count (suc i) (λ j h. rw (t .attribute-is j h))
+      ∙ ap (λ (c : ℕ). tally att ones c (suc i)) (t .tree .nodes) ∙ tally-one att (length (xs t)) (suc i))
+      ∙ rw (t .tree .pixels)
 
   -- the grey lost at each attribute
   loss-same : (a : ℕ) → a < n t → (j : ℕ) → j < count
-      → pick (eqb (col ATTRIBUTE (n t) w j) a) (lossOf (n t) w j) 0
-      ≡ pick (eqb (held j) a) (areaOf (n t) (near t) (grey f) (xs t) j * rise (n t) (near t) (grey f) (xs t) j) 0
-  unfolding rise
+      → pick (eqb (col ATTRIBUTE (n t) w j) a) (lossOf (n t) w j) 0 ≡ pick (eqb (att j) a) (loss j) 0
   loss-same a h zero l =
       pick-no (eqb (col ATTRIBUTE (n t) w 0) a) (lossOf (n t) w 0) 0 (λ u. omega (arith, attribute-root t, eqb→eq (col ATTRIBUTE (n t) w 0) a u))
-      ∙ sym (pick-no (eqb (held 0) a) (areaOf (n t) (near t) (grey f) (xs t) 0 * rise (n t) (near t) (grey f) (xs t) 0) 0
-      (λ u. omega (arith, attribute-root t, is-held 0 l, eqb→eq (held 0) a u)))
+      ∙ sym (pick-no (eqb (att 0) a) (loss 0) 0 (λ u. omega (arith, attribute-root t, t .attribute-is 0 l, eqb→eq (att 0) a u)))
   loss-same a h (suc j) l =
-      let below : parent (n t) (near t) (grey f) (xs t) (suc j) < count =
-      omega (arith, parent-below (tree-grid t) (tree-nodes t) (suc j) (omega arith)) in
-      let loss : lossOf (n t) w (suc j) ≡ areaOf (n t) (near t) (grey f) (xs t) (suc j) * rise (n t) (near t) (grey f) (xs t) (suc j) =
-      rw (
-        t .area-is (suc j) l,
-        t .level-is (suc j) l,
-        t .parent-is (suc j) l,
-        t .level-is (parent (n t) (near t) (grey f) (xs t) (suc j)) below,
-      ) in
-      ap (λ (x : ℕ). pick (eqb x a) (lossOf (n t) w (suc j)) 0) (is-held (suc j) l) ∙ ap (λ (x : ℕ). pick (eqb (held (suc j)) a) x 0) loss
+      ap (λ (x : ℕ). pick (eqb x a) (lossOf (n t) w (suc j)) 0) (t .attribute-is (suc j) l)
+      ∙ ap (λ (x : ℕ). pick (eqb (att (suc j)) a) x 0) (loss-node (t .tree) j l)
 
   lost-is : (a : ℕ) → a < n t → lostAt (n t) (near t) (grey f) (xs t) (attribute (g .width) (g .height)) a
-      ≡ sum (length (xs t)) (λ (j : ℕ). pick (eqb (held j) a) (areaOf (n t) (near t) (grey f) (xs t) j * rise (n t) (near t) (grey f) (xs t) j) 0)
-  lost-is = rw (t .pixels) at (lost-is-sum (t .plate))
+      ≡ sum (length (xs t)) (λ (j : ℕ). pick (eqb (att j) a) (loss j) 0)
+  lost-is = rw (t .tree .pixels) at (lost-is-sum (t .tree .plate))
 
   pub listed-losses : byAttribute (n t) w (lossOf (n t) w) count ≡ losses (g .connectivity) (g .width) (g .height) f
   unfolding losses tally
   listed-losses =
-      let part : ℕ → ℕ = λ (j : ℕ). areaOf (n t) (near t) (grey f) (xs t) j * rise (n t) (near t) (grey f) (xs t) j in
       table-same (n t - 1) (λ (i : ℕ). tally (col ATTRIBUTE (n t) w) (lossOf (n t) w) count (suc i))
       (λ (i : ℕ). lostAt (n t) (near t) (grey f) (xs t) (attribute (g .width) (g .height)) (suc i)) (λ i l.
-      tally-cong (col ATTRIBUTE (n t) w) (lossOf (n t) w) held part count (suc i) (loss-same (suc i) (omega arith))
-      ∙ ap (λ (c : ℕ). tally held part c (suc i)) (t .nodes)
+      tally-cong (col ATTRIBUTE (n t) w) (lossOf (n t) w) att loss count (suc i) (loss-same (suc i) (omega arith))
+      ∙ ap (λ (c : ℕ). tally att loss c (suc i)) (t .tree .nodes)
       ∙ sym (lost-is (suc i) (omega arith)))
-      ∙ rw (t .pixels)
+      ∙ ap (λ (m : ℕ). table (m - 1) (λ (i : ℕ). lostAt m (near t) (grey f) (xs t) (attribute (g .width) (g .height)) (suc i))) (sym (t .tree .pixels))
+
+  -- the grey held
+  held-same : (j : ℕ) → suc j < count → heldOf (n t) w (suc j) ≡ pick (leb (n t) (att (suc j))) (loss (suc j)) 0
+  held-same j l =
+      ap (λ (x : ℕ). pick (leb (n t) x) (lossOf (n t) w (suc j)) 0) (t .attribute-is (suc j) l)
+      ∙ ap (λ (x : ℕ). pick (leb (n t) (att (suc j))) x 0) (loss-node (t .tree) j l)
+
+  held-is : held (g .connectivity) (g .width) (g .height) f ≡ sum (length (xs t) - 1) (λ (j : ℕ). pick (leb (n t) (att (suc j))) (loss (suc j)) 0)
+  held-is = rw (t .tree .pixels) at (held-is-sum (t .tree .plate))
+
+  pub listed-held : heldBy (n t) w (count - 1) ≡ held (g .connectivity) (g .width) (g .height) f
+  unfolding heldBy
+  listed-held =
+      sum-cong (count - 1) (λ (j : ℕ). heldOf (n t) w (suc j)) (λ (j : ℕ). pick (leb (n t) (att (suc j))) (loss (suc j)) 0)
+      (λ j l. held-same j (omega arith))
+      ∙ ap (λ (c : ℕ). sum (c - 1) (λ (j : ℕ). pick (leb (n t) (att (suc j))) (loss (suc j)) 0)) (t .tree .nodes)
+      ∙ sym held-is

@@ -8,7 +8,7 @@ use lib.ListN.{length}
 use Rattle.record_parse.specs.Parse.{readOf}
 use Rattle.record_tree.proofs.Finding.{TreeFound, tree-found, found-clearable}
 use Rattle.record.proofs.Refused.{Stopped, stopped, sizes-stopped, sizes-refused}
-use Rattle.record.proofs.Done.{found-stands, nodes-few, sizes-done, sizes-fit, tree-few, tree-room}
+use Rattle.record.proofs.Done.{found-stands, nodes-few, sizes-done, sizes-fit, sizes-room, tree-few, tree-room}
 
 -- ---- what stands at each place
 abbrev start : tie.After-read-tree → tie.Start
@@ -30,14 +30,14 @@ refused c =
     stopped (t .result) (t .ensures) (c .before .before .match .keys2) (c .give-up .ensures .0) (c .give-up .ensures .1)
 
 -- the tables are written
-abbrev shaped : tie.After-list-sizes → tie.After-shape-of
-shaped c = c .before .before .before .before
+abbrev shaped : tie.After-darkest-of → tie.After-shape-of
+shaped c = c .before .before
 
-abbrev fits : tie.After-list-sizes → tie.Else1
+abbrev fits : tie.After-darkest-of → tie.Else1
 fits c = shaped c .before
 
-abbrev listed : tie.After-darkest-of → tie.After-list-sizes
-listed c = c .before .before .before .before .before .before
+abbrev darkened : tie.After-list-sizes → tie.After-darkest-of
+darkened c = c .before .before .before .before
 
 read-tree-requires : tie.Need-read-tree-requires
 read-tree-requires c κs = search needs
@@ -90,25 +90,28 @@ returns-2 c =
 shape-of-requires : tie.Need-shape-of-requires
 shape-of-requires c κs = search needs
 
+darkest-of-requires : tie.Need-darkest-of-requires
+darkest-of-requires c κs = found-stands (there (c .before .before .before .before)) (c .before .shape-of .ensures)
+
 list-sizes-requires : tie.Need-list-sizes-requires
 list-sizes-requires c κs =
-    let h = c .before .before .before in
-    let e = h .before in
+    let d = c .before .before .before in
+    let e = fits d in
     let t = there (e .before .before) in
-    (found-stands t (h .shape-of .ensures), sizes-fit t (h .shape-of .ensures) (e .before .tables-refusal .ensures) (e .if1 .left))
-
-darkest-of-requires : tie.Need-darkest-of-requires
-darkest-of-requires c κs =
-    let l = c .before .before .before .before .before in
-    found-stands (there (fits l .before .before)) (shaped l .shape-of .ensures)
+    let shape = shaped d .shape-of .ensures in
+    (found-stands t shape, sizes-fit t shape (e .before .tables-refusal .ensures) (e .if1 .left))
 
 clear-requires-2 : tie.Need-clear-requires-2
-clear-requires-2 c κs = tree-room (there (fits (listed (c .before)) .before .before))
+clear-requires-2 c κs =
+    let l = c .before .before .before .before .before .before .before in
+    let d = darkened l in
+    let e = fits d in
+    sizes-room (there (e .before .before)) (shaped d .shape-of .ensures) (e .before .tables-refusal .ensures) (e .if1 .left) (l .list-sizes .ensures)
 
-cast-t19 : tie.Need-cast-t19
-cast-t19 c =
-    let l = listed (c .before .before .before .before) in
-    omega (arith, nodes-few (there (fits l .before .before)) (shaped l .shape-of .ensures))
+cast-t20 : tie.Need-cast-t20
+cast-t20 c =
+    let d = darkened (c .before .before .before .before .before .before .before .before .before .before) in
+    omega (arith, nodes-few (there (fits d .before .before)) (shaped d .shape-of .ensures))
 
 same-length-3 : tie.Need-same-length-3
 same-length-3 c = search needs
@@ -121,12 +124,12 @@ same-length-5 c = search needs
 
 returns-3 : tie.Need-returns-3
 returns-3 c =
-    let d = c .before .before in
-    let k = d .before .before in
-    let l = listed k in
-    let e = fits l in
-    sizes-done (there (e .before .before)) (shaped l .shape-of .ensures) (e .before .tables-refusal .ensures) (e .if1 .left) (l .list-sizes .ensures)
-    (k .darkest-of .ensures) (d .clear2 .ensures)
+    let z = c .before .before in
+    let l = z .before .before .before .before .before .before .before .before in
+    let d = darkened l in
+    let e = fits d in
+    sizes-done (there (e .before .before)) (shaped d .shape-of .ensures) (e .before .tables-refusal .ensures) (e .if1 .left) (d .darkest-of .ensures)
+    (l .list-sizes .ensures) (z .clear2 .ensures)
 
 pub size-list-spec : {M : Type 1} → statement M
 size-list-spec =
@@ -146,10 +149,10 @@ size-list-spec =
     same-length-2
     returns-2
     shape-of-requires
-    list-sizes-requires
     darkest-of-requires
+    list-sizes-requires
     clear-requires-2
-    cast-t19
+    cast-t20
     same-length-3
     same-length-4
     same-length-5

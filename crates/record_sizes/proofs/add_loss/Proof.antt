@@ -17,7 +17,7 @@ lost s = lossOf (s .args .g .pixels) (now (s .args .w))
 get-requires : tie.Need-get-requires
 get-requires c κs =
     let s = c .before .before .pre in
-    (s .0 .0 .room, (omega arith, omega (arith, few-nodes (s .0 .0), s .0 .1)))
+    (s .0 .0 .tree .room, (omega arith, omega (arith, few-nodes (s .0 .0 .tree), s .0 .1)))
 
 returns : tie.Need-returns
 returns c =
@@ -28,7 +28,7 @@ loss-of-requires : tie.Need-loss-of-requires
 loss-of-requires c κs =
     let s = c .before .before .before .before .before in
     let t = s .pre .0 .0 in
-    (t, (inner t (s .args .j) (s .pre .0 .1) (omega (arith, c .if1 .left, c .before .before .get .ensures .0)), s .pre .0 .1))
+    (t .tree, (inner t (s .args .j) (s .pre .0 .1) (omega (arith, c .if1 .left, c .before .before .get .ensures .0)), s .pre .0 .1))
 
 -- the place of its attribute
 place : (c : tie.Else1)
@@ -55,11 +55,11 @@ add-losses c =
     let t = s .pre .0 .0 in
     omega (
       arith,
-      added-low t (lost s) (s .pre .1) (s .pre .0 .1) (e .before .before .get .ensures .0) (omega (arith, e .if1 .left)) 4278190080 (loss-low t),
+      added-low t (lost s) (s .pre .1) (s .pre .0 .1) (e .before .before .get .ensures .0) (omega (arith, e .if1 .left)) 4278190080 (loss-low (t .tree)),
       c .before .loss-of .ensures .1,
-      few-nodes t,
+      few-nodes (t .tree),
       s .pre .0 .1,
-      t .room .small,
+      t .tree .room .small,
     )
 
 slice-write-losses : tie.Need-slice-write-losses

@@ -13,7 +13,7 @@ use Rattle.record_sizes.proofs.Listing.{added, added-low, added-past, a
 get-requires : tie.Need-get-requires
 get-requires c κs =
     let s = c .before .before .pre in
-    (s .0 .0 .room, (omega arith, omega (arith, few-nodes (s .0 .0), s .0 .1)))
+    (s .0 .0 .tree .room, (omega arith, omega (arith, few-nodes (s .0 .0 .tree), s .0 .1)))
 
 returns : tie.Need-returns
 returns c =
@@ -46,9 +46,9 @@ add-counts c =
     omega (
       arith,
       added-low t ones (s .1) (s .0 .1) (e .before .before .get .ensures .0) (omega (arith, e .if1 .left)) 1 (λ i h m. omega arith),
-      few-nodes t,
+      few-nodes (t .tree),
       s .0 .1,
-      t .room .small,
+      t .tree .room .small,
     )
 
 slice-write-counts : tie.Need-slice-write-counts

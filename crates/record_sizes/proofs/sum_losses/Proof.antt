@@ -26,7 +26,7 @@ add-loss-requires c κs =
 add-j : tie.Need-add-j Inv-loop μ-loop
 add-j c =
     let l = c .before .before .before .before .before in
-    let t = l .before .before .before .pre .0 in
+    let t = l .before .before .before .pre .0 .tree in
     omega (arith, few-nodes t, t .room .small, c .before .before .before .before .loop-test .taken)
 
 loop-less : tie.Need-loop-less Inv-loop μ-loop

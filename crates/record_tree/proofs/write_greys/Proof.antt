@@ -9,9 +9,9 @@ use borrow.Author.Needs.{needs}
 use denote.Ref.{now}
 use lib.ListN.{length, drop, length-set}
 use Rattle.meaning.specs.Sets.{span, table}
+use Rattle.theory_lists.proofs.Written.{written-more, written-over}
 use Rattle.work_columns.specs.Columns.{col}
 use Rattle.work_columns.specs.Layout.{GREY}
-use Rattle.maxtree_values.proofs.Tables.{written-more, written-over}
 
 abbrev Inv-loop : tie.InvT-loop
 Inv-loop w n out₀ p₀ out p = (p ≤ n) × (length out ≡ length out₀) × (out ≡ table p (col GREY n w) ++ drop p out₀)
