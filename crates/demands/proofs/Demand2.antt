@@ -35,20 +35,20 @@ unfolding cleaned
 dark-closes k w h limit f = refl
 
 module _ (limit : ℕ) {k w h : ℕ} {f out out′ work work′ : List ℕ} {r : ℕ} where
-  light-holds : Cleaned lightSide k w h limit f out out′ work work′ r → r ≡ 0 → HoldsOpened k w limit f out′
+  light-holds : Cleaned lightSide k w h limit f out out′ work work′ r → r ≡ 0 → HoldsOpened k w h limit f out′
   light-holds a z t p l =
       let plate = a .accepted z in
       rw (a .output, z, light-opens k w h limit f, over-nth (opened k w h limit f) out p (omega (arith, opened-length plate limit)))
       (opened-is-greatest plate limit t p (limit-fits lightSide limit a z) l)
 
-  dark-holds : Cleaned darkSide k w h limit f out out′ work work′ r → r ≡ 0 → HoldsClosed k w limit f out′
+  dark-holds : Cleaned darkSide k w h limit f out out′ work work′ r → r ≡ 0 → HoldsClosed k w h limit f out′
   dark-holds a z t p l =
       let plate = a .accepted z in
       rw (a .output, z, dark-closes k w h limit f, over-nth (closed k w h limit f) out p (omega (arith, closed-length plate limit)))
       (closed-is-least plate limit t p (limit-fits darkSide limit a z) l)
 
   side-holds : (side : ℕ) → Cleaned side k w h limit f out out′ work work′ r → r ≡ 0 → (side ≡ lightSide) ⊎ (side ≡ darkSide)
-      → HoldsCleaned side k w limit f out′
+      → HoldsCleaned side k w h limit f out′
   side-holds side a z (inl e) = inl (e, light-holds (rw e at a) z)
   side-holds side a z (inr e) = inr (e, dark-holds (rw e at a) z)
 

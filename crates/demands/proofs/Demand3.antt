@@ -5,7 +5,7 @@ use Prim.Native.Nat.{ℕ, _-_, _*_, _≤_}
 use borrow.Author.Tests.{le-ltb, le-leb, eq-eqb}
 use lib.ListN.{length}
 use Rattle.meaning.specs.Answers.{over, treeRefusal}
-use Rattle.meaning.specs.Cut.{counts, cut, cutAt, darkest, losses, total}
+use Rattle.meaning.specs.Cut.{counts, cut, cutAt, darkest, held, losses, total}
 use Rattle.meaning.specs.Nodes.{nodesOf}
 use Rattle.meaning.specs.Opening.{atLeast, attribute}
 use Rattle.meaning.specs.Plate.{Plate, grey, touch}
@@ -76,7 +76,7 @@ module _ {k w h : ℕ} {f : List ℕ} (pl : Plate k w h f) where
 
     module _ (work plain : List ℕ) (c : 8 * (w * h) ≤ length work) (d : w * h ≤ length plain) where
       size-head-is : sizeHead bytes counted lost work
-          ≡ record { refusal = 0; width = w; height = h; connectivity = k; nodes = length (nodesOf k w f); darkest = darkest f }
+          ≡ record { refusal = 0; width = w; height = h; connectivity = k; nodes = length (nodesOf k w f); darkest = darkest f; held = held k w h f }
       unfolding sizeHead
       size-head-is = rw (read-there pl (length work) c, size-zero)
 

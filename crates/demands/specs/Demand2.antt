@@ -6,21 +6,24 @@ use mathlib.Core.List.{List}
 use Prim.Native.Nat.{ℕ, _-_, _*_, _≤_, _<_}
 use lib.ListN.{length, take}
 use Rattle.meaning.specs.Sets.{nth}
-use Rattle.meaning.specs.Plate.{grey, greatestGrey, negative, touch}
+use Rattle.meaning.specs.Plate.{grey, greatestGrey, negative, onTrimEdge, touch}
 use Rattle.meaning.specs.Opening.{Region, darkSide, lightSide}
 use Rattle.plate_filter.specs.Operations.{Cleaned}
 
--- each pixel p holds the greatest t for which a connected set of at least the limit's pixels contains p and has no grey below t
-abbrev pub HoldsOpened : (k w limit : ℕ) (f out : List ℕ) → Type 0
-HoldsOpened k w limit f out = (t p : ℕ) → p < length f → Region (length f) (touch k w) (grey f) limit t p ↔ t ≤ nth out p
+-- each pixel p holds the greatest t for which a connected set that has at least the limit's pixels or holds one of the trim edge contains p and has no
+-- grey below t
+abbrev pub HoldsOpened : (k w h limit : ℕ) (f out : List ℕ) → Type 0
+HoldsOpened k w h limit f out = (t p : ℕ) → p < length f → Region (length f) (touch k w) (onTrimEdge w h) (grey f) limit t p ↔ t ≤ nth out p
 
 -- the same on the negative: the greatest grey minus what p holds is that greatest t
-abbrev pub HoldsClosed : (k w limit : ℕ) (f out : List ℕ) → Type 0
-HoldsClosed k w limit f out = (t p : ℕ) → p < length f → Region (length f) (touch k w) (grey (negative f)) limit t p ↔ t ≤ greatestGrey - nth out p
+abbrev pub HoldsClosed : (k w h limit : ℕ) (f out : List ℕ) → Type 0
+HoldsClosed k w h limit f out =
+    (t p : ℕ) → p < length f
+    → Region (length f) (touch k w) (onTrimEdge w h) (grey (negative f)) limit t p ↔ t ≤ greatestGrey - nth out p
 
 -- the one on the light side, the other on the dark side, and there is no third
-abbrev pub HoldsCleaned : (side k w limit : ℕ) (f out : List ℕ) → Type 0
-HoldsCleaned side k w limit f out = ((side ≡ lightSide) × HoldsOpened k w limit f out) ⊎ ((side ≡ darkSide) × HoldsClosed k w limit f out)
+abbrev pub HoldsCleaned : (side k w h limit : ℕ) (f out : List ℕ) → Type 0
+HoldsCleaned side k w h limit f out = ((side ≡ lightSide) × HoldsOpened k w h limit f out) ⊎ ((side ≡ darkSide) × HoldsClosed k w h limit f out)
 
 -- two plates are negatives of each other
 abbrev pub Negatives : (f g : List ℕ) → Type 0
@@ -29,7 +32,7 @@ Negatives f g = (g ≡ negative f) × (f ≡ negative g)
 pub record CleaningClaim : Type 0 where
   -- what is not refused is cleaned
   pub cleaning : (side k w h limit : ℕ) (f out out′ work work′ : List ℕ) (r : ℕ) → Cleaned side k w h limit f out out′ work work′ r → r ≡ 0
-      → HoldsCleaned side k w limit f out′
+      → HoldsCleaned side k w h limit f out′
   -- at one limit and connectivity, light on a plate and dark on its negative are refused alike, in buffers of the same lengths ..
   pub refused-alike : (k w h limit : ℕ) (f out out′ work work′ lent lent′ space space′ : List ℕ) (r r′ : ℕ)
       → Cleaned lightSide k w h limit f out out′ work work′ r → Cleaned darkSide k w h limit (negative f) lent lent′ space space′ r′

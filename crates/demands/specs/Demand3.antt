@@ -6,7 +6,7 @@ use mathlib.Core.List.{List}
 use Prim.Native.Nat.{ℕ, _-_, _*_, _≤_}
 use lib.ListN.{length, take}
 use Rattle.meaning.specs.Nodes.{nodesOf}
-use Rattle.meaning.specs.Cut.{total, darkest}
+use Rattle.meaning.specs.Cut.{total, darkest, held}
 use Rattle.meaning.specs.Record.{recordOf}
 use Rattle.record_parse.specs.Parse.{readOf}
 use Rattle.record.specs.Writing.{writeAnswer, writeOut}
@@ -51,9 +51,9 @@ pub record CutClaim (k w h : ℕ) (f bytes : List ℕ) (limit : ℕ) (out work :
 -- the size list: it is not refused, and it is the size list, by the totals of the cuts of these bytes. `plain` is an output for the cuts
 pub record SizeClaim (k w h : ℕ) (f bytes counts losses work plain : List ℕ) : Type 0 where
   pub accepted : sizeHead bytes counts losses work
-      ≡ record { refusal = 0; width = w; height = h; connectivity = k; nodes = length (nodesOf k w f); darkest = darkest f }
+      ≡ record { refusal = 0; width = w; height = h; connectivity = k; nodes = length (nodesOf k w f); darkest = darkest f; held = held k w h f }
   pub is-list : IsSizeList k w h f (sizeCounts bytes counts losses work) (sizeLosses bytes counts losses work)
-      (sizeHead bytes counts losses work .darkest) (λ (a : ℕ). total (cutPlate w h bytes a plain work))
+      (sizeHead bytes counts losses work .darkest) (sizeHead bytes counts losses work .held) (λ (a : ℕ). total (cutPlate w h bytes a plain work))
 
 -- all of it, for every limit from 1 to the pixels and whatever buffers of enough space
 pub record Demand3 (k w h : ℕ) (f : List ℕ) : Type 0 where

@@ -9,7 +9,7 @@ use lib.ListN.{length, drop, replicate, take, length-append, length-drop, length
 use lib.Seq.{drop-at}
 use borrow.Author.Tests.{ne-eqb, le-ltb}
 use Rattle.meaning.specs.Answers.{outRefusal, over, workAfter}
-use Rattle.meaning.specs.Cut.{counts, cut, darkest, losses, total}
+use Rattle.meaning.specs.Cut.{counts, cut, darkest, held, losses, total}
 use Rattle.meaning.specs.Nodes.{nodesOf}
 use Rattle.meaning.specs.Plate.{Plate}
 use Rattle.meaning.specs.Record.{recordOf}
@@ -30,7 +30,16 @@ use Rattle.record_write_cut_list.proofs.Conditions.{Fits, early-chain, 
 
 -- the answer that refuses
 abbrev refusedBy : ℕ → CutListed
-refusedBy number = record { refusal = number; length = 0; nodes = 0; darkest = 0 }
+refusedBy number = record { refusal = number; length = 0; nodes = 0; darkest = 0; held = 0 }
+
+-- a number of the answer where nothing is refused, and the answer from its numbers
+picked : {r : ℕ} (x : ℕ) → r ≡ 0 → x ≡ pick (eqb r 0) x 0
+picked x e = rw e
+
+same-answer : {a a′ b b′ c c′ d d′ e e′ : ℕ} → a ≡ a′ → b ≡ b′ → c ≡ c′ → d ≡ d′ → e ≡ e′
+    → _≡_ {A = CutListed} (record { refusal = a; length = b; nodes = c; darkest = d; held = e })
+    (record { refusal = a′; length = b′; nodes = c′; darkest = d′; held = e′ })
+same-answer x y z u v = rw (x, y, z, u, v)
 
 -- ---- the prefix of the output that is the record
 
@@ -162,7 +171,7 @@ module _ (k w h limit : ℕ) (f bytes out counted lost work : List ℕ) {e : ℕ
             → CutRecord (readOf (take (r .length) bytes₁) (length w₁)) limit out out₁ w₁ w₂ r₂
             → ListedSizes (readOf (take (r .length) bytes₁) (length w₂)) counted counted₁ lost lost₁ w₂ w₃ r₃
             → WrittenCutListed k w h limit f bytes bytes₁ out out₁ counted counted₁ lost lost₁ work w₃
-            (record { refusal = 0; length = r .length; nodes = r₃ .nodes; darkest = r₃ .darkest })
+            (record { refusal = 0; length = r .length; nodes = r₃ .nodes; darkest = r₃ .darkest; held = r₃ .held })
         unfolding writeCutListAnswer
         listed-done {out₁} {counted₁} {lost₁} {w₂} {w₃} {r₂} {r₃} c s =
             let by : refusal ≡ 0 = whole ∙ no-refusal in
@@ -177,8 +186,10 @@ module _ (k w h limit : ℕ) (f bytes out counted lost work : List ℕ) {e : ℕ
             let losses-are : lost₁ ≡ over (losses k w h f) lost = u .loss-table ∙ rw sz in
             let nodes-are : r₃ .nodes ≡ length (nodesOf k w f) = ap (λ (a : SizeHead). a .nodes) (u .answer) ∙ rw sz in
             let dark-is : r₃ .darkest ≡ darkest f = ap (λ (a : SizeHead). a .darkest) (u .answer) ∙ rw sz in
+            let held-is : r₃ .held ≡ held k w h f = ap (λ (a : SizeHead). a .held) (u .answer) ∙ rw sz in
             record {
-              answer = rw (by, long, nodes-are, dark-is);
+              answer = same-answer (sym by) (long ∙ picked (length (recordOf k w h f)) by) (nodes-are ∙ picked (length (nodesOf k w f)) by)
+                  (dark-is ∙ picked (darkest f) by) (held-is ∙ picked (held k w h f) by);
               written = rw by bytes-are;
               cut-plate = rw by cut-is;
               count-table = rw by counts-are;
@@ -186,7 +197,8 @@ module _ (k w h limit : ℕ) (f bytes out counted lost work : List ℕ) {e : ℕ
               space = rw (begins-is, z) w₃-is;
               accepted = λ q. pl;
               is-cut = λ q. rw (cut-is, over-take (cut k w h limit f) out (w * h) (cut-length pl limit)) (is-cut pl limit (fits .sizes .limit-high));
-              is-list = λ q. rw (counts-are, losses-are, dark-is) (is-list pl counted lost (λ (a : ℕ). total (cut k w h a f)) (λ a l m. refl));
+              is-list = λ q.
+                  rw (counts-are, losses-are, dark-is, held-is) (is-list pl counted lost (λ (a : ℕ). total (cut k w h a f)) (λ a l m. refl));
             }
 
 -- ---- given its space nothing is refused

@@ -9,7 +9,7 @@ use lib.ListN.{length, take}
 use Rattle.meaning.specs.Sets.{pick}
 use Rattle.meaning.specs.Plate.{Plate, connectivityFits, gridFits}
 use Rattle.meaning.specs.Nodes.{nodesOf}
-use Rattle.meaning.specs.Cut.{counts, cut, darkest, losses, total}
+use Rattle.meaning.specs.Cut.{counts, cut, darkest, held, losses, total}
 use Rattle.meaning.specs.Record.{recordOf}
 use Rattle.meaning.specs.Answers.{limitRefusal, outAfter, outRefusal, plateRefusal, tablesRefusal, workAfter, workRefusal}
 use Rattle.demands.specs.Claims.{IsCut, IsSizeList}
@@ -37,7 +37,7 @@ module _ (k w h limit : ℕ) (f bytes out counted lost work : List ℕ) where
   workBegins = eqb (earlyRefusal k w h limit f (length out) (length counted) (length lost) (length work) 0) 0
 
   unfoldable pub writeCutListAnswer : CutListed
-  unfolding writeCutListRefusal nodesOf darkest
+  unfolding writeCutListRefusal
   writeCutListAnswer =
       let met = eqb writeCutListRefusal 0 in
       record {
@@ -45,6 +45,7 @@ module _ (k w h limit : ℕ) (f bytes out counted lost work : List ℕ) where
         length = pick met (length (recordOf k w h f)) 0;
         nodes = pick met (length (nodesOf k w f)) 0;
         darkest = pick met (darkest f) 0;
+        held = pick met (held k w h f) 0;
       }
 
 -- the contract: the answer, the outputs and the work space; where nothing is refused, an accepted plate, its greys bytes among the rest, and demand 3's
@@ -60,4 +61,4 @@ pub record WrittenCutListed (k w h limit : ℕ) (f bytes bytes′ out out′ cou
     pub accepted : writeCutListRefusal k w h limit f bytes out counted lost work ≡ 0 → Plate k w h f
     pub is-cut : writeCutListRefusal k w h limit f bytes out counted lost work ≡ 0 → IsCut k w h limit f (take (w * h) out′)
     pub is-list : writeCutListRefusal k w h limit f bytes out counted lost work ≡ 0
-        → IsSizeList k w h f counted′ lost′ (r .darkest) (λ (a : ℕ). total (cut k w h a f))
+        → IsSizeList k w h f counted′ lost′ (r .darkest) (r .held) (λ (a : ℕ). total (cut k w h a f))

@@ -3,24 +3,26 @@ ghost use mathlib.Core.Path.{_≡_};
 ghost use lib.ListN.{length};
 ghost use Rattle.record_write_cut_list.specs.WriteCutList.{earlyRefusal, WrittenCutListed};
 
-// What `write_cut_list` answers: the length of the record in bytes, the number of nodes, the darkest grey.
+// What `write_cut_list` answers: the length of the record in bytes, the number of nodes, the darkest grey, the grey held.
 #[repr(C)]
 pub struct CutListed {
     pub refusal: u32,
     pub length: usize,
     pub nodes: u32,
     pub darkest: u32,
+    pub held: u64,
 }
 
 // The answer that refuses: the number, and zeros elsewhere.
 fn refused(number: u32) -> CutListed
-    ensures { λ r. ⌜ r ≡ record { refusal = number; length = 0; nodes = 0; darkest = 0 } ⌝ }
+    ensures { λ r. ⌜ r ≡ record { refusal = number; length = 0; nodes = 0; darkest = 0; held = 0 } ⌝ }
 {
     CutListed {
         refusal: number,
         length: 0,
         nodes: 0,
         darkest: 0,
+        held: 0,
     }
 }
 
@@ -97,5 +99,6 @@ pub fn write_cut_list(
         length: length,
         nodes: sizes.nodes,
         darkest: sizes.darkest,
+        held: sizes.held,
     }
 }
