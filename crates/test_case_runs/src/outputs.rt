@@ -95,7 +95,7 @@ fn run_lent(line: &[u8], bytes: &[u8], out: &mut [u8], work: &mut [u32]) {
 
 // The output is lent with as many places as the case says.
 pub fn run(line: &[u8], bytes: &[u8], work: &mut [u32]) {
-    let mut out = [170u8; 66000];
-    let n = places(line, b"out", 66000);
+    let mut out = [170u8; 69000];
+    let n = places(line, b"out", 69000);
     run_lent(line, bytes, &mut out[..n], work);
 }

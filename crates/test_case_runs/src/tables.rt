@@ -79,6 +79,7 @@ fn print_size_head(head: record::SizeHead) {
     print_number(head.connectivity as u64);
     print_number(head.nodes as u64);
     print_number(head.darkest as u64);
+    print_number(head.held);
 }
 
 fn print_tables(counts: &[u32], losses: &[u64]) {
@@ -94,10 +95,10 @@ fn list_sizes(bytes: &[u8], counts: &mut [u32], losses: &mut [u64], work: &mut [
 }
 
 fn sizes(line: &[u8], bytes: &[u8], work: &mut [u32]) {
-    let mut counts = [9u32; 66000];
-    let mut losses = [9u64; 66000];
-    let a = places(line, b"counts", 66000);
-    let b = places(line, b"losses", 66000);
+    let mut counts = [9u32; 69000];
+    let mut losses = [9u64; 69000];
+    let a = places(line, b"counts", 69000);
+    let b = places(line, b"losses", 69000);
     list_sizes(bytes, &mut counts[..a], &mut losses[..b], work);
 }
 
@@ -106,6 +107,7 @@ fn print_joint(joint: record_write_cut_list::CutListed) {
     print_number(joint.length as u64);
     print_number(joint.nodes as u64);
     print_number(joint.darkest as u64);
+    print_number(joint.held);
 }
 
 fn print_outputs(record: &[u8], out: &[u8], counts: &[u32], losses: &[u64]) {

@@ -17,12 +17,13 @@ case file text = record { file = file; text = text }
 abbrev pub cases : List Case
 cases =
     -- SPECIFICATION 10's small plate; one pixel of grey 7
-    case "P5 4 3 255 \n\n\n\n\n2\u{1e}\n\n\n\nZ" "size 4 3 4 4\n1 2 100\n2 1 40\nrest 10 96\n"
-    ∷ case "P5 1 1 255 \u{7}" "size 1 1 4 1\nrest 7 97\n"
-    -- two nodes of area 1 beside each other's corner, and no line for area 2
-    ∷ case "P5 2 2 255 \0\u{5}\u{3}\0" "size 2 2 4 3\n1 2 8\nrest 0 100\n"
+    case "P5 4 3 255 \n\n\n\n\n2\u{1e}\n\n\n\nZ" "size 4 3 4 4\n1 1 20\n2 1 40\nheld 80\nrest 10 96\n"
+    ∷ case "P5 1 1 255 \u{7}" "size 1 1 4 1\nheld 0\nrest 7 97\n"
+    -- two nodes of area 1 beside each other's corner: on the trim edge, and off it
+    ∷ case "P5 2 2 255 \0\u{5}\u{3}\0" "size 2 2 4 3\nheld 8\nrest 0 100\n"
+    ∷ case "P5 4 4 255 \0\0\0\0\0\0\u{5}\0\0\u{3}\0\0\0\0\0\0" "size 4 4 4 3\n1 2 8\nheld 0\nrest 0 100\n"
     -- one grey
-    ∷ case "P5 3 1 255 ÿÿÿ" "size 3 1 4 1\nrest 255 0\n"
+    ∷ case "P5 3 1 255 ÿÿÿ" "size 3 1 4 1\nheld 0\nrest 255 0\n"
     -- refusals of the plate file
     ∷ case "P6 1 1 255 a" "refused 10\n"
     ∷ case "P5 1 1" "refused 11\n"

@@ -13,7 +13,7 @@ use Rattle.pgm.specs.declared.PgmRead.{PgmRead}
 use Rattle.pgm.proofs.Sizes.{Sized}
 use Rattle.pgm.proofs.Reading.{file-sized}
 use Rattle.text_lines.specs.Lines.{PutText}
-use Rattle.text_sizelist.specs.Text.{answerText, heldPixels, inputBytes, plateText, refusedText, sizeText}
+use Rattle.text_sizelist.specs.Text.{answerText, mostPixels, inputBytes, plateText, refusedText, sizeText}
 use Rattle.text_sizelist.specs.Pieces.{Made}
 
 -- a text that was put from its first place on
@@ -31,11 +31,11 @@ pub text-long : (file : List ℕ) → inputBytes < length file → refusedText 6
 unfolding sizeText
 text-long file l = rw (lt-ltb inputBytes (length file) l)
 
-text-read : (file : List ℕ) → length file ≤ inputBytes → answerText (readPgm file heldPixels) (rasterOf file) ≡ sizeText file
+text-read : (file : List ℕ) → length file ≤ inputBytes → answerText (readPgm file mostPixels) (rasterOf file) ≡ sizeText file
 unfolding sizeText
 text-read file l = rw (le-ltb inputBytes (length file) l)
 
-module _ (file : List ℕ) (r : PgmRead) (l : length file ≤ inputBytes) (e : r ≡ readPgm file heldPixels) where
+module _ (file : List ℕ) (r : PgmRead) (l : length file ≤ inputBytes) (e : r ≡ readPgm file mostPixels) where
   answered-text : answerText r (rasterOf file) ≡ sizeText file
   answered-text = ap (λ (s : PgmRead). answerText s (rasterOf file)) e ∙ text-read file l
 

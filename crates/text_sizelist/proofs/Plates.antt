@@ -9,7 +9,7 @@ use borrow.Author.Tests.{eq-eqb, le-ltb, lt-ltb}
 use lib.ListN.{drop, length, length-append, take, List·getD-append}
 use lib.Seq.{take-at}
 use Rattle.meaning.specs.Answers.{over, treeRefusal}
-use Rattle.meaning.specs.Cut.{countAt, counts, darkest, losses, lostAt}
+use Rattle.meaning.specs.Cut.{countAt, counts, darkest, held, losses, lostAt}
 use Rattle.meaning.specs.Nodes.{nodesOf, own}
 use Rattle.meaning.specs.Opening.{attribute}
 use Rattle.meaning.specs.Plate.{Plate, grey, touch}
@@ -28,7 +28,7 @@ use Rattle.record.specs.declared.Written.{Written}
 use Rattle.record.specs.Reading.{ListedSizes, sizeRefusal}
 use Rattle.record.specs.Writing.{WrittenRecord, writeAnswer, writeOut, writeRefusal}
 use Rattle.text_lines.specs.Lines.{decimal, line}
-use Rattle.text_sizelist.specs.Text.{areaLine, headLine, heldPixels, plateText, restLine, four, sizeLine}
+use Rattle.text_sizelist.specs.Text.{areaLine, headLine, heldLine, mostPixels, plateText, restLine, four, sizeLine}
 
 -- ---- the lines of areas
 
@@ -54,11 +54,11 @@ sizes-over n counted lost out out′ a b =
       List·getD-append lost (drop (length lost) out′) 0 i (omega arith),
     ))
 
--- ---- a plate that the program holds
+-- ---- a plate of at most 1,024 pixels
 
 -- the text of an answer, with the lines of its tables
 abbrev pub answerText : SizeHead → List ℕ → List ℕ
-answerText s sizes = (headLine (s .width) (s .height) (s .connectivity) (s .nodes) ++ sizes) ++ restLine (s .darkest)
+answerText s sizes = ((headLine (s .width) (s .height) (s .connectivity) (s .nodes) ++ sizes) ++ heldLine (s .held)) ++ restLine (s .darkest)
 
 module _ {w h : ℕ} {f : List ℕ} (pl : Plate four w h f) where
   abbrev xs : List ℕ
@@ -91,7 +91,7 @@ module _ {w h : ℕ} {f : List ℕ} (pl : Plate four w h f) where
       )
 
   -- at most 4,099 fields of at most five bytes
-  pub record-short : length f ≤ heldPixels → length bytes ≤ 20495
+  pub record-short : length f ≤ mostPixels → length bytes ≤ 20495
   unfolding recordOf
   record-short small = omega (arith, encode-most (fields four w h f), fields-length, few-nodes)
 
@@ -100,7 +100,8 @@ module _ {w h : ℕ} {f : List ℕ} (pl : Plate four w h f) where
   darkest-low = omega (arith, darkest-root pl, pl .greys (nth xs 0) (nth-inside (plate-grid pl) (plate-nodes pl) 0 some-nodes))
 
   plate-text-is : plateText w h f
-      ≡ (headLine w h four (length xs) ++ gather (length f - 1) (sizeLine (counts four w h f) (losses four w h f))) ++ restLine (darkest f)
+      ≡ ((headLine w h four (length xs) ++ gather (length f - 1) (sizeLine (counts four w h f) (losses four w h f))) ++ heldLine (held four w h f))
+      ++ restLine (darkest f)
   unfolding plateText
   plate-text-is = refl
 
@@ -133,7 +134,7 @@ module _ {w h : ℕ} {f : List ℕ} (pl : Plate four w h f) where
       none : sizeRefusal (plate four w h f) (length counted) (length lost) ≡ 0
       none = rw (le-ltb (length counted) (w * h - 1) a, le-ltb (length lost) (w * h - 1) b)
 
-      head-is : r ≡ record { refusal = 0; width = w; height = h; connectivity = four; nodes = length xs; darkest = darkest f }
+      head-is : r ≡ record { refusal = 0; width = w; height = h; connectivity = four; nodes = length xs; darkest = darkest f; held = held four w h f }
       head-is = listed .answer ∙ rw none
 
       pub listed-low : r .darkest < 256
@@ -155,4 +156,5 @@ module _ {w h : ℕ} {f : List ℕ} (pl : Plate four w h f) where
       pub listed-text : answerText r (gather (length f - 1) (sizeLine counted′ lost′)) ≡ plateText w h f
       listed-text =
           ap (λ (s : SizeHead). answerText s (gather (length f - 1) (sizeLine counted′ lost′))) head-is
-          ∙ ap (λ (l : List ℕ). (headLine w h four (length xs) ++ l) ++ restLine (darkest f)) sizes-are ∙ sym plate-text-is
+          ∙ ap (λ (l : List ℕ). ((headLine w h four (length xs) ++ l) ++ heldLine (held four w h f)) ++ restLine (darkest f)) sizes-are
+          ∙ sym plate-text-is

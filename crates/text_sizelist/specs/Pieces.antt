@@ -6,17 +6,17 @@ use Prim.Native.Nat.{ℕ, _*_, _≤_}
 use lib.ListN.{length}
 use Rattle.meaning.specs.Answers.{over}
 use Rattle.meaning.specs.Plate.{gridFits}
-use Rattle.text_sizelist.specs.Text.{heldPixels}
+use Rattle.text_sizelist.specs.Text.{mostPixels}
 
 -- the bytes that the longest text needs, and more
 abbrev pub textPlaces : ℕ
 textPlaces = 65536
 
--- a plate that the program holds, and a text that has the places
-pub record HeldPlate (w h : ℕ) (f text : List ℕ) : Type 0 where
+-- a plate of no more pixels, and a text that has the places
+pub record SmallPlate (w h : ℕ) (f text : List ℕ) : Type 0 where
   pub sizes : gridFits w h ≡ true
   pub long : length f ≡ w * h
-  pub small : length f ≤ heldPixels
+  pub small : length f ≤ mostPixels
   pub room : textPlaces ≤ length text
 
 -- the whole text was made: its length, and the excess untouched

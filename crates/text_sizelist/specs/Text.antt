@@ -3,7 +3,7 @@ use mathlib.Core.List.{List, [], _∷_, _++_}
 use Prim.Native.Nat.{ℕ, suc, _-_}
 use lib.Dec.{eqb, ltb}
 use lib.ListN.{length}
-use Rattle.meaning.specs.Cut.{counts, darkest, losses}
+use Rattle.meaning.specs.Cut.{counts, darkest, held, losses}
 use Rattle.meaning.specs.Ink.{inkOf}
 use Rattle.meaning.specs.Nodes.{nodesOf}
 use Rattle.meaning.specs.Sets.{gather, nth, pick}
@@ -12,12 +12,12 @@ use Rattle.pgm.specs.Text.{bytes}
 use Rattle.pgm.specs.declared.PgmRead.{PgmRead}
 use Rattle.text_lines.specs.Lines.{decimal, line}
 
--- the longest input, in bytes; the pixels that the program holds; the connectivity that it uses
+-- the longest input, in bytes; the most pixels; the connectivity that it uses
 abbrev pub inputBytes : ℕ
 inputBytes = 4096
 
-abbrev pub heldPixels : ℕ
-heldPixels = 1024
+abbrev pub mostPixels : ℕ
+mostPixels = 1024
 
 abbrev pub four : ℕ
 four = 4
@@ -41,22 +41,29 @@ areaLine a count lost = pick (ltb 0 count) (line (decimal a) (count ∷ lost ∷
 abbrev pub sizeLine : List ℕ → List ℕ → ℕ → List ℕ
 sizeLine counted lost i = areaLine (suc i) (nth counted i) (nth lost i)
 
+-- "held", the grey held on the trim edge
+unfoldable pub heldLine : ℕ → List ℕ
+unfolding bytes line
+heldLine held = line (bytes "held") (held ∷ [])
+
 -- "rest", darkest grey, its ink percentage
 unfoldable pub restLine : ℕ → List ℕ
 unfolding bytes line inkOf
 restLine grey = line (bytes "rest") (grey ∷ inkOf grey ∷ [])
 
--- a plate of width w and height h: one line for each area from 1 to pixels - 1, rising, between the first line and the last
+-- a plate of width w and height h: one line for each area from 1 to pixels - 1, rising, between the first line and the last two
 unfoldable pub plateText : ℕ → ℕ → List ℕ → List ℕ
-unfolding headLine areaLine restLine gather nodesOf counts losses darkest
+unfolding headLine areaLine heldLine restLine gather nodesOf counts losses held darkest
 plateText w h f =
-    (headLine w h four (length (nodesOf four w f)) ++ gather (length f - 1) (sizeLine (counts four w h f) (losses four w h f))) ++ restLine (darkest f)
+    ((headLine w h four (length (nodesOf four w f)) ++ gather (length f - 1) (sizeLine (counts four w h f) (losses four w h f)))
+    ++ heldLine (held four w h f))
+    ++ restLine (darkest f)
 
 -- what reading the plate file answered, and the raster: its refusal, or the plate
 abbrev pub answerText : PgmRead → List ℕ → List ℕ
 answerText read f = pick (eqb (read .refusal) 0) (plateText (read .width) (read .height) f) (refusedText (read .refusal))
 
--- the text of a file. An input that is too long is refused before any parsing; a plate of more pixels than are held is refusal 5 of reading it
+-- the text of a file. An input that is too long is refused before any parsing; a plate of more pixels is refusal 5 of reading it
 unfoldable pub sizeText : List ℕ → List ℕ
 unfolding readPgm rasterOf plateText refusedText
-sizeText file = pick (ltb inputBytes (length file)) (refusedText 6) (answerText (readPgm file heldPixels) (rasterOf file))
+sizeText file = pick (ltb inputBytes (length file)) (refusedText 6) (answerText (readPgm file mostPixels) (rasterOf file))

@@ -3,8 +3,8 @@ ghost use Prim.Native.Nat.{_+_, _*_, _≤_, _<_};
 ghost use lib.ListN.{length};
 ghost use Rattle.meaning.specs.Sets.{gather};
 ghost use Rattle.text_lines.specs.Lines.{PutText};
-ghost use Rattle.text_sizelist.specs.Text.{refusedText, headLine, sizeLine, restLine, plateText, sizeText};
-ghost use Rattle.text_sizelist.specs.Pieces.{HeldPlate, Made};
+ghost use Rattle.text_sizelist.specs.Text.{refusedText, headLine, sizeLine, heldLine, restLine, plateText, sizeText};
+ghost use Rattle.text_sizelist.specs.Pieces.{SmallPlate, Made};
 
 // Puts the text of a refusal.
 fn put_refused(text: &mut [u8], number: u32) -> usize
@@ -63,6 +63,17 @@ fn put_sizes(text: &mut [u8], at: usize, counts: &[u32], losses: &[u64], places:
     next
 }
 
+// Puts the line of the grey held.
+fn put_held(text: &mut [u8], at: usize, held: u64) -> usize
+    requires { ⌜ at + 26 ≤ length (now text) ⌝ }
+    ensures { λ r. ⌜ PutText (now (text .entry)) at (heldLine held) (now (text .exit)) r ⌝ }
+    ensures { λ r. ⌜ r ≤ at + 26 ⌝ }
+{
+    let field = text_lines::put_word(text, at, b"held");
+    let end = text_lines::put_field(text, field, held);
+    text_lines::put_end(text, end)
+}
+
 // Puts the last line: the darkest grey and its ink percentage.
 fn put_rest(text: &mut [u8], at: usize, darkest: u32) -> usize
     requires { ⌜ at + 47 ≤ length (now text) ⌝ }
@@ -79,7 +90,7 @@ fn put_rest(text: &mut [u8], at: usize, darkest: u32) -> usize
 // Puts the text of a plate: its record is written, and the record's sizes are listed. A record of 1,024 pixels has at most 4,099 fields, each of
 // at most five bytes.
 fn plate_text(image: &[u8], width: u32, height: u32, text: &mut [u8]) -> usize
-    requires { ⌜ HeldPlate width height (now image) (now text) ⌝ }
+    requires { ⌜ SmallPlate width height (now image) (now text) ⌝ }
     ensures { λ r. ⌜ PutText (now (text .entry)) 0 (plateText width height (now (image .entry))) (now (text .exit)) r ⌝ }
 {
     let mut bytes = [0u8; 20495];
@@ -90,7 +101,8 @@ fn plate_text(image: &[u8], width: u32, height: u32, text: &mut [u8]) -> usize
     let mut losses = [0u64; 1023];
     let list = record::size_list(&bytes[..size], &mut counts, &mut losses, &mut work);
     let sizes = put_head(text, list.width, list.height, list.connectivity, list.nodes);
-    let rest = put_sizes(text, sizes, &counts, &losses, image.len() - 1);
+    let held = put_sizes(text, sizes, &counts, &losses, image.len() - 1);
+    let rest = put_held(text, held, list.held);
     put_rest(text, rest, list.darkest)
 }
 

@@ -82,14 +82,33 @@ sub-put-sizes c =
 put-sizes-requires : tie.Need-put-sizes-requires
 put-sizes-requires c κs = search needs
 
+-- what was put and listed before the line of the grey held
+abbrev put : tie.After-put-held → tie.After-put-sizes
+put c = c .before .before .before .before
+
+abbrev first : tie.After-put-sizes → tie.After-put-head
+first c = c .before .before .before .before .before .before
+
+abbrev listed : tie.After-put-head → tie.After-size-list
+listed c = c .before .before .before .before .before
+
+abbrev known : tie.After-size-list → tie.After-shared-slice-known
+known c = c .before .before .before .before .before .before .before .before .before .before .before
+
+put-held-requires : tie.Need-put-held-requires
+put-held-requires c κs =
+    let s = c .before .before .before in
+    let p = known (listed (first s)) .before .pre in
+    omega (arith, s .put-sizes .ensures .1, first s .put-head .ensures .1, p .small, p .room)
+
 put-rest-requires : tie.Need-put-rest-requires
 put-rest-requires c κs =
-    let s = c .before .before .before in
-    let h = s .before .before .before .before .before .before in
-    let l = h .before .before .before .before .before in
-    let k = l .before .before .before .before .before .before .before .before .before .before .before in
+    let e = c .before .before .before in
+    let s = put e in
+    let l = listed (first s) in
+    let k = known l in
     let p = k .before .pre in (
-      omega (arith, s .put-sizes .ensures .1, h .put-head .ensures .1, p .small, p .room),
+      omega (arith, e .put-held .ensures .1, s .put-sizes .ensures .1, first s .put-head .ensures .1, p .small, p .room),
       listed-low (plate-of k) (bytes-are (l .before .before .before .before .before .before .before)) (omega (arith, p .long, p .small))
           (omega (arith, p .long, p .small))
           (omega (arith, p .long, p .small, slice-aggregate-size-list-4 (l .before)))
@@ -101,16 +120,18 @@ same-length c = search needs
 
 returns : tie.Need-returns
 returns c =
-    let s = c .before .before .before .before .before .before in
-    let h = s .before .before .before .before .before .before in
-    let l = h .before .before .before .before .before in
-    let k = l .before .before .before .before .before .before .before .before .before .before .before in
+    let e = c .before .before .before .before .before .before in
+    let s = put e in
+    let h = first s in
+    let l = listed h in
+    let k = known l in
     let p = k .before .pre in
+    let lines = put-put (put-put (h .put-head .ensures .0) (s .put-sizes .ensures .0)) (e .put-held .ensures .0) in
     rw (listed-text (plate-of k) (bytes-are (l .before .before .before .before .before .before .before)) (omega (arith, p .long, p .small))
     (omega (arith, p .long, p .small))
     (omega (arith, p .long, p .small, slice-aggregate-size-list-4 (l .before)))
     (l .size-list .ensures))
-    at (put-put (put-put (h .put-head .ensures .0) (s .put-sizes .ensures .0)) (c .before .before .put-rest .ensures))
+    at (put-put lines (c .before .before .put-rest .ensures))
 
 pub plate-text-spec : {M : Type 1} → statement M
 plate-text-spec =
@@ -130,6 +151,7 @@ plate-text-spec =
     slice-aggregate-put-sizes-2
     sub-put-sizes
     put-sizes-requires
+    put-held-requires
     put-rest-requires
     same-length
     returns)

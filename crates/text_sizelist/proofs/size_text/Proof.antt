@@ -8,7 +8,7 @@ use lib.ListN.{length, replicate, take}
 use lib.Seq.{length-take-le}
 use Rattle.pgm.specs.File.{rasterOf}
 use Rattle.pgm.proofs.Sizes.{Sized}
-use Rattle.text_sizelist.specs.Text.{heldPixels, plateText}
+use Rattle.text_sizelist.specs.Text.{mostPixels, plateText}
 use Rattle.text_sizelist.proofs.Files.{made, raster-is, read-is, text-long, text-plate, text-refused}
 use Rattle.text_sizelist.proofs.size_text.Statement.{statement}
 use Rattle.text_sizelist.proofs.size_text.Tie as tie
@@ -38,10 +38,10 @@ returns-2 c =
 -- what was read, where nothing is refused
 read : (c : tie.Else2) → let p = c .before .before .before in
     Sized (p .read-pgm .result .width) (p .read-pgm .result .height)
-    (length (rasterOf (now (p .before .before .before .before .args .file)))) heldPixels
+    (length (rasterOf (now (p .before .before .before .before .args .file)))) mostPixels
 read c =
     let p = c .before .before .before in
-    read-is (now (p .before .before .before .before .args .file)) (replicate heldPixels 0) (p .read-pgm .last .1 .0) (p .read-pgm .result)
+    read-is (now (p .before .before .before .before .args .file)) (replicate mostPixels 0) (p .read-pgm .last .1 .0) (p .read-pgm .result)
     (p .read-pgm .ensures .0) (c .if2 .left)
     (p .read-pgm .ensures .1)
 
@@ -49,7 +49,7 @@ raster : (c : tie.Else2) → let p = c .before .before .before in
     take (p .read-pgm .result .width * p .read-pgm .result .height) (p .read-pgm .last .1 .0) ≡ rasterOf (now (p .before .before .before .before .args .file))
 raster c =
     let p = c .before .before .before in
-    raster-is (now (p .before .before .before .before .args .file)) (replicate heldPixels 0) (p .read-pgm .last .1 .0) (p .read-pgm .result)
+    raster-is (now (p .before .before .before .before .args .file)) (replicate mostPixels 0) (p .read-pgm .last .1 .0) (p .read-pgm .result)
     (p .read-pgm .ensures .0) (c .if2 .left)
     (p .read-pgm .ensures .1)
 
