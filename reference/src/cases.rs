@@ -8,6 +8,7 @@ mod netpbm;
 mod plates;
 mod sides;
 mod touch;
+mod trim_edge;
 
 use crate::case::Case;
 use crate::cleaning::negative;
@@ -25,6 +26,7 @@ pub fn cases_text() -> String {
     touch::cases(&mut cases);
     files::cases(&mut cases);
     netpbm::cases(&mut cases);
+    trim_edge::cases(&mut cases);
     cases.iter().map(Case::line).collect()
 }
 

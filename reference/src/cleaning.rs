@@ -11,7 +11,7 @@ pub const DARK: u32 = 2;
 /// Both sides.
 pub const SIDES: [u32; 2] = [LIGHT, DARK];
 
-/// Cleans the plate: the side's patches below the limit.
+/// Cleans the plate: the side's patches below the limit and off the trim edge.
 #[allow(clippy::too_many_arguments)]
 pub fn clean(
     side: u32,
@@ -77,13 +77,14 @@ fn cleaned_plate(side: u32, grid: &Grid, plate: &[u8], limit: usize) -> Vec<u8> 
     }
 }
 
-/// Each pixel's opened value: the greatest t for which its component of
-/// "grey at least t" has at least the limit's pixels.
+/// Each pixel's opened value: the greatest t for which its component of "grey at
+/// least t" has at least the limit's pixels or holds a trim-edge pixel. A connected
+/// set with no grey below t that qualifies lies in a component that does.
 pub fn opened_plate(grid: &Grid, plate: &[u8], limit: usize) -> Vec<u8> {
     let mut opened = vec![0; grid.pixels()];
     for t in thresholds(plate) {
         for component in grid.components_at_least(plate, t) {
-            if component.len() < limit {
+            if !grid.qualifies(&component, limit) {
                 continue;
             }
             for p in component {

@@ -1,4 +1,4 @@
-//! The grid of a plate: its bounds, its touching pixels, its components.
+//! The grid of a plate: its bounds, its touching pixels, its trim edge, its components.
 
 /// The greatest width and the greatest height.
 pub const MAX_WIDTH_OR_HEIGHT: u32 = 32_768;
@@ -101,6 +101,23 @@ impl Grid {
                 .filter(move |&c| near(grid.connectivity, (row, column), (r, c)))
                 .map(move |c| r * grid.width + c)
         })
+    }
+
+    /// Is the pixel on the trim edge, in the first or last row or column?
+    pub fn on_trim_edge(&self, p: usize) -> bool {
+        let (row, column) = (p / self.width, p % self.width);
+        row == 0 || row == self.height - 1 || column == 0 || column == self.width - 1
+    }
+
+    /// Does the set hold a pixel of the trim edge?
+    pub fn holds_trim_edge(&self, set: &[usize]) -> bool {
+        set.iter().any(|&p| self.on_trim_edge(p))
+    }
+
+    /// Does the set qualify at a limit: has it at least the limit's pixels, or does
+    /// it hold a pixel of the trim edge?
+    pub fn qualifies(&self, set: &[usize], limit: usize) -> bool {
+        set.len() >= limit || self.holds_trim_edge(set)
     }
 
     /// Flood fill from a member pixel: its component, pixel numbers rising.

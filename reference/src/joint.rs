@@ -23,6 +23,7 @@ pub struct JointHead {
     pub length: usize,
     pub nodes: u32,
     pub darkest: u8,
+    pub held: u64,
 }
 
 /// Writes the record of a plate, cuts it at the limit and lists its sizes.
@@ -78,7 +79,7 @@ fn joined(
     if outputs.record.len() < record.len() {
         return Err(5);
     }
-    let cut = cut_of(&nodes, grid.pixels(), limit as usize);
+    let cut = cut_of(grid, &nodes, limit as usize);
     let sizes = sizes_of(grid, plate, &nodes);
     outputs.record[..record.len()].copy_from_slice(&record);
     outputs.out[..cut.len()].copy_from_slice(&cut);
@@ -89,5 +90,6 @@ fn joined(
         length: record.len(),
         nodes: nodes.len() as u32,
         darkest: sizes.darkest,
+        held: sizes.held,
     })
 }

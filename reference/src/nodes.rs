@@ -228,11 +228,14 @@ pub fn own_nodes(plate: &[u8], nodes: &[Node]) -> Vec<usize> {
     own
 }
 
-/// The cut at a limit: at each pixel the highest level among the nodes
-/// containing it with area at least the limit.
-pub fn cut_of(nodes: &[Node], pixels: usize, limit: usize) -> Vec<u8> {
-    let mut cut = vec![0; pixels];
-    for node in nodes.iter().filter(|node| node.area >= limit) {
+/// The cut at a limit: at each pixel the highest level among the nodes containing
+/// it that have area at least the limit or hold a trim-edge pixel.
+pub fn cut_of(grid: &Grid, nodes: &[Node], limit: usize) -> Vec<u8> {
+    let mut cut = vec![0; grid.pixels()];
+    for node in nodes {
+        if !grid.qualifies(&node.pixels, limit) {
+            continue;
+        }
         for &p in &node.pixels {
             cut[p] = node.level.max(cut[p]);
         }

@@ -82,9 +82,9 @@ pub fn read_record(record: &[u8], out: &mut [u8], work: &mut [u32]) -> RecordHea
 
 /// Reading with its conditions: up to 24, then 5.
 fn read_checked(record: &[u8], out: &mut [u8], work: &mut [u32]) -> Result<Grid, u32> {
-    let held = accept_record(record, work)?;
-    put_plate(&held.plate, out)?;
-    Ok(held.grid)
+    let accepted = accept_record(record, work)?;
+    put_plate(&accepted.plate, out)?;
+    Ok(accepted.grid)
 }
 
 /// Cuts a record at a limit.
@@ -97,13 +97,13 @@ pub fn cut_record(record: &[u8], limit: u32, out: &mut [u8], work: &mut [u32]) -
 
 /// Cutting with its conditions: up to 24, then 4, then 5.
 fn cut_checked(record: &[u8], limit: u32, out: &mut [u8], work: &mut [u32]) -> Result<Grid, u32> {
-    let held = accept_record(record, work)?;
-    let pixels = held.grid.pixels();
-    if limit == 0 || limit as usize > pixels {
+    let accepted = accept_record(record, work)?;
+    if limit == 0 || limit as usize > accepted.grid.pixels() {
         return Err(4);
     }
-    put_plate(&cut_of(&held.nodes, pixels, limit as usize), out)?;
-    Ok(held.grid)
+    let cut = cut_of(&accepted.grid, &accepted.nodes, limit as usize);
+    put_plate(&cut, out)?;
+    Ok(accepted.grid)
 }
 
 /// Copies a plate to the output, or 5 when that is shorter.
@@ -134,7 +134,7 @@ fn refused(refusal: u32) -> RecordHead {
 }
 
 /// A record that was accepted: its plate, and that plate's nodes.
-pub struct Held {
+pub struct Accepted {
     pub grid: Grid,
     pub plate: Vec<u8>,
     pub nodes: Vec<Node>,
@@ -142,7 +142,7 @@ pub struct Held {
 
 /// All conditions on a record up to 24, in order. Work space is zeroed as
 /// soon as 6 is after, so every later refusal finds it so.
-pub fn accept_record(record: &[u8], work: &mut [u32]) -> Result<Held, u32> {
+pub fn accept_record(record: &[u8], work: &mut [u32]) -> Result<Accepted, u32> {
     let mut fields = Fields { bytes: record };
     let (grid, count) = take_head(&mut fields)?;
     check_work(work, grid.pixels())?;
@@ -156,7 +156,7 @@ pub fn accept_record(record: &[u8], work: &mut [u32]) -> Result<Held, u32> {
     if record_of(&grid, &plate, &nodes) != record {
         return Err(24);
     }
-    Ok(Held { grid, plate, nodes })
+    Ok(Accepted { grid, plate, nodes })
 }
 
 /// Width, height, connectivity and node count.

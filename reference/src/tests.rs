@@ -9,3 +9,4 @@ mod properties;
 mod refusals;
 mod slips;
 mod touch;
+mod trim_edge;

@@ -8,8 +8,8 @@ use crate::sizes::sizes_of;
 
 /// The greatest input, in bytes.
 const INPUT_BYTES: usize = 4_096;
-/// The pixels that the program holds.
-const HELD_PIXELS: usize = 1_024;
+/// The greatest plate, in pixels.
+const MOST_PIXELS: usize = 1_024;
 /// The connectivity that the program uses.
 const CONNECTIVITY: u32 = 4;
 
@@ -18,13 +18,13 @@ pub fn sizelist_text(input: &[u8]) -> String {
     if input.len() > INPUT_BYTES {
         return refused_text(6);
     }
-    let mut held = [0; HELD_PIXELS];
-    let head = read_pgm(input, &mut held);
+    let mut greys = [0; MOST_PIXELS];
+    let head = read_pgm(input, &mut greys);
     if head.refusal != 0 {
         return refused_text(head.refusal);
     }
     let grid = Grid::new(head.width, head.height, CONNECTIVITY);
-    listed_text(&grid, &held[..grid.pixels()])
+    listed_text(&grid, &greys[..grid.pixels()])
 }
 
 /// The text for a refusal.
@@ -48,6 +48,7 @@ fn listed_text(grid: &Grid, plate: &[u8]) -> String {
             text += &format!("{} {} {}\n", i + 1, count, lost);
         }
     }
+    text += &format!("held {}\n", sizes.held);
     let ink = ink_percentage(sizes.darkest);
     text + &format!("rest {} {}\n", sizes.darkest, ink)
 }

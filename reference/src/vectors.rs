@@ -5,7 +5,8 @@
 //! The fields of a plate are `width`, `height`, `connectivity` and `bytes`, its
 //! greys. A record or a file is `bytes`. The fields of a lent buffer are its
 //! places. An output holds 170 before, a table, a column or an entry 9, the
-//! work space 7.
+//! work space 7. In the answers of `joint` and `sizes` the grey held stands
+//! directly after the darkest grey.
 //!
 //! - `clean`: `side`, a plate, `limit`, `out`, `work`
 //! - `maxima`, `write`: a plate, `out`, `work`
@@ -141,8 +142,8 @@ fn joint(case: &Case) -> String {
     let limit = case.number("limit");
     let head = write_cut_list(&case.bytes(), w, h, k, limit, outputs, &mut work);
     let said = format!(
-        " {} {} {} {}",
-        head.refusal, head.length, head.nodes, head.darkest
+        " {} {} {} {} {}",
+        head.refusal, head.length, head.nodes, head.darkest, head.held
     );
     let tables = barred(&counts) + &barred(&losses);
     said + &barred(&record) + &barred(&out) + &tables + &barred(&work)
@@ -179,10 +180,11 @@ fn sizes(case: &Case) -> String {
     let mut work = case.lent("work", 7);
     let head = size_list(&case.bytes(), &mut counts, &mut losses, &mut work);
     let said = format!(
-        " {} {} {} {} {} {}",
-        head.refusal, head.width, head.height, head.connectivity, head.nodes, head.darkest
+        " {} {} {} {}",
+        head.refusal, head.width, head.height, head.connectivity
     );
-    said + &barred(&counts) + &barred(&losses) + &barred(&work)
+    let grey = format!(" {} {} {}", head.nodes, head.darkest, head.held);
+    said + &grey + &barred(&counts) + &barred(&losses) + &barred(&work)
 }
 
 /// Reading a plate file.

@@ -4,7 +4,7 @@
 // record or a file is `bytes`. The fields of a lent buffer are its places. An output holds 170 before, a table, a column or an entry 9, the work
 // space 7.
 //
-//     open, close        a plate, limit, out, work
+//     clean              side, a plate, limit, out, work
 //     maxima, write      a plate, out, work
 //     nodes              a plate, levels, parents, areas, anchors, work
 //     entries            a plate, at (the entry that is read), work; six entries are lent
@@ -16,8 +16,6 @@
 //     header             a file, at (where the header begins)
 //     text               a file: what sizelist prints
 //     ink                greys
-ghost use Prim.Native.Nat.{_≤_};
-ghost use lib.ListN.{length};
 use libc::STDIN_FILENO;
 use libc::STDOUT_FILENO;
 use test_case_lines::cases;
@@ -42,12 +40,12 @@ fn lend_work(line: &[u8], bytes: &[u8], work: &mut [u32]) {
 }
 
 // The array goes by reference, not as a slice, so that no proof computes its elements.
-fn whole_work(line: &[u8], bytes: &[u8], work: &mut [u32; 528100]) {
+fn whole_work(line: &[u8], bytes: &[u8], work: &mut [u32; 543000]) {
     lend_work(line, bytes, work);
 }
 
 fn run_bytes(line: &[u8], bytes: &[u8]) {
-    let mut work = [7u32; 528100];
+    let mut work = [7u32; 543000];
     whole_work(line, bytes, &mut work);
 }
 
@@ -59,7 +57,7 @@ fn print_name(line: &[u8]) {
 // Runs the case of a line and prints its line.
 fn run_line(line: &[u8]) {
     print_name(line);
-    let mut bytes = [0u8; 66000];
+    let mut bytes = [0u8; 69000];
     let n = cases::list(line, b"bytes", &mut bytes);
     run_bytes(line, &bytes[..n]);
     io::write_all(STDOUT_FILENO, b"\n");

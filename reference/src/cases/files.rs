@@ -31,7 +31,7 @@ fn read(file: &[u8], places: usize) -> Case<'static> {
 }
 
 /// What sizelist prints for a file.
-fn text(file: &[u8]) -> Case<'static> {
+pub fn text(file: &[u8]) -> Case<'static> {
     Case::new("text").on(file)
 }
 
@@ -169,7 +169,7 @@ fn texts() -> Vec<Plate> {
 }
 
 /// The plate's file.
-fn file_of(plate: &Plate) -> Vec<u8> {
+pub fn file_of(plate: &Plate) -> Vec<u8> {
     let header = format!("P5\n{} {}\n255\n", plate.width, plate.height);
     [header.as_bytes(), &plate.greys].concat()
 }

@@ -260,10 +260,19 @@ pub fn meeting_later(begun: Case<'static>, connectivity: u32, met: u32) -> Case<
     case
 }
 
-/// Patches of about 65,536 pixels at limits about 65,536.
+/// Patches of about 65,536 pixels off the trim edge, the first so many pixels of 64 rows
+/// of 1,025 in a border, at limits about 65,536.
 fn large(cases: &mut Vec<Case>) {
     for patch in [65_535, 65_536, 65_537] {
-        let plate = Plate::new(256, 257, |p| if p < patch { 200 } else { 10 });
+        let plate = Plate::new(1_027, 66, |p| {
+            let (row, column) = (p / 1_027, p % 1_027);
+            let inside = (1..65).contains(&row) && (1..1_026).contains(&column);
+            if inside && 1_025 * (row - 1) + column - 1 < patch {
+                200
+            } else {
+                10
+            }
+        });
         let n = plate.pixels();
         for limit in [1, 255, 256, 65_535, 65_536, 65_537] {
             cases.push(plate.limited(cleaning(LIGHT), 4, limit));

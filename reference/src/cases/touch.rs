@@ -52,7 +52,8 @@ fn two(p: usize, q: usize, grey: u8) -> Plate {
 }
 
 /// Every two pixels: of two greys, the darker is marked unless they touch; of one
-/// grey and cleaned at limit 2, they stay when they touch.
+/// grey and cleaned at limit 2, the middle pixel, which alone is off the trim edge,
+/// stays when they touch.
 fn two_pixels(cases: &mut Vec<Case>) {
     for p in 0..9 {
         for q in (0..9).filter(|&q| q != p) {

@@ -1,9 +1,9 @@
 //! The cases of vectors: every refusal of every operation occurs, the
 //! specification's examples are among them, and their lines are right.
 
-use std::collections::BTreeSet;
+use std::collections::{BTreeMap, BTreeSet};
 
-use crate::case::Case;
+use crate::case::{listed, Case};
 use crate::cases::UNFIT;
 use crate::*;
 
@@ -108,10 +108,10 @@ fn a_line_spells_its_case() {
 /// The program vectors has so many places for a field, at most.
 fn most_places(case: &Case, field: &str) -> u32 {
     match (case.name, field) {
-        (_, "work") => 528_100,
+        (_, "work") => 543_000,
         ("joint", "record" | "out") => 1_000,
         ("joint" | "nodes" | "file", _) => 200,
-        _ => 66_000,
+        _ => 69_000,
     }
 }
 
@@ -122,7 +122,7 @@ fn the_program_holds_every_case() {
     let columns = ["levels", "parents", "areas", "anchors"];
     for line in cases_text().lines() {
         let case = Case::of(line);
-        assert!(case.bytes().len() <= 66_000, "{line}");
+        assert!(case.bytes().len() <= 69_000, "{line}");
         for buffer in buffers.into_iter().chain(columns) {
             let places = case.number(buffer);
             assert!(places <= most_places(&case, buffer), "{line}");
@@ -166,11 +166,11 @@ fn a_plate_on_the_light_side_and_its_negative_on_the_dark_side() {
     let fields = "width 4 height 3 connectivity 4 work 98 limit 3 out 13";
     holds(
         &format!("clean side 1 {fields} bytes 0*2 9*2 0 9*2 0 9 0*2 9"),
-        "clean 0 | 0*2 9*2 0 9*2 0*5 170 | 0*96 7*2",
+        "clean 0 | 0*2 9*2 0 9*2 0 9 0*2 9 170 | 0*96 7*2",
     );
     holds(
         &format!("clean side 2 {fields} bytes 255*2 246*2 255 246*2 255 246 255*2 246"),
-        "clean 0 | 255*2 246*2 255 246*2 255*5 170 | 0*96 7*2",
+        "clean 0 | 255*2 246*2 255 246*2 255 246 255*2 246 170 | 0*96 7*2",
     );
 }
 
@@ -179,8 +179,8 @@ fn three_kinds_of_touch_and_a_number_that_is_none() {
     let begun = "clean side 1 width 4 height 3 connectivity";
     let fields = "work 98 limit 2 out 13 bytes 0 7 0*4 9 0*2 8 0*2";
     for (connectivity, plate) in [
-        (4, "0*12"),
-        (6, "0 7 0*4 7 0*5"),
+        (4, "0 7 0*7 8 0*2"),
+        (6, "0 7 0*4 7 0*2 8 0*2"),
         (8, "0 7 0*4 8 0*2 8 0*2"),
     ] {
         let line = format!("clean 0 | {plate} 170 | 0*96 7*2");
@@ -204,10 +204,79 @@ fn the_small_plate_as_entries_and_jointly() {
     holds(
         &format!("joint {plate} limit 2 out 13 record 30 counts 12 losses 13 {SMALL_GREYS}"),
         &format!(
-            "joint 0 27 4 10 | {SMALL_FIELDS} 170*3 | 10*5 30*2 10*5 170 | \
-             2 1 0*9 9 | 100 40 0*9 9*2 | 0*96 7*2"
+            "joint 0 27 4 10 80 | {SMALL_FIELDS} 170*3 | 10*5 30*2 10*4 90 170 | \
+             1*2 0*9 9 | 20 40 0*9 9*2 | 0*96 7*2"
         ),
     );
+}
+
+/// The greys of the small plate, one higher, in a border of a grey: five rows of six.
+fn framed_greys(grey: u8) -> String {
+    let g = grey;
+    format!("{g}*7 11*4 {g}*2 11 51 31 11 {g}*2 11*3 91 {g}*7")
+}
+
+#[test]
+fn the_small_plate_in_a_darker_border() {
+    let fields = "connectivity 4 work 242 limit 2 out 31 bytes";
+    holds(
+        &format!(
+            "clean side 1 width 6 height 5 {fields} {}",
+            framed_greys(10)
+        ),
+        "clean 0 | 10*7 11*4 10*2 11 31*2 11 10*2 11*4 10*7 170 | 0*240 7*2",
+    );
+    // the whole small plate is a node of area 12 and rise 1 off the trim edge
+    let nodes = "10 30 1*2 12 1 20 2 1 20 1 3 80 1";
+    let own = "0*7 1*4 0*2 1 3 2 1 0*2 1*3 4 0*7";
+    holds(
+        &format!("sizes work 240 counts 29 losses 29 bytes 6 5 4 5 {nodes} {own}"),
+        "sizes 0 6 5 4 5 10 0 | 2 1 0*9 1 0*17 | 100 40 0*9 12 0*17 | 0*240",
+    );
+}
+
+#[test]
+fn the_small_plate_in_a_lighter_border() {
+    // at 91 the border has pixel 11, so 19 pixels rise by 80 and 18 by 1
+    let text = "size 6 5 4 5\n1 1 20\n2 1 40\nheld 1538\nrest 11 96\n";
+    assert_eq!(20 + 40 + 1_538 + 30 * 11, 260 + 12 + 18 * 92);
+    let file = format!("80 53 10 54 32 53 10 50 53*2 10 {}", framed_greys(92));
+    let bytes = listed(text.bytes());
+    holds(
+        &format!("text bytes {file}"),
+        &format!("text {} |{bytes}", text.len()),
+    );
+}
+
+/// The different plates that cleaning on a side, with a connectivity, makes of one
+/// plate at the limits among the cases: the most for any plate.
+fn most_different(cases: &str, side: u32, connectivity: u32) -> usize {
+    let mut made: BTreeMap<_, BTreeSet<String>> = BTreeMap::new();
+    for line in cases.lines().filter(|line| line.starts_with("clean ")) {
+        let case = Case::of(line);
+        let of = (case.number("side"), case.number("connectivity"));
+        if of != (side, connectivity) {
+            continue;
+        }
+        let answer = vectors_text(line);
+        if answer.starts_with("clean 0 ") {
+            let plate = (case.number("width"), case.bytes());
+            made.entry(plate).or_default().insert(answer);
+        }
+    }
+    made.values().map(BTreeSet::len).max().unwrap_or(0)
+}
+
+#[test]
+fn the_limits_decide_on_each_side_with_each_connectivity() {
+    let cases = cases_text();
+    let small = |line: &&str| Case::of(line).bytes().len() <= 81;
+    let cases: Vec<&str> = cases.lines().filter(small).collect();
+    for side in SIDES {
+        for connectivity in CONNECTIVITIES {
+            assert!(most_different(&cases.join("\n"), side, connectivity) >= 4);
+        }
+    }
 }
 
 #[test]

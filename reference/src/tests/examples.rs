@@ -15,25 +15,31 @@ fn tens_except(others: &[(usize, u8)]) -> Vec<u8> {
 #[test]
 fn light_cleaning_with_connectivity_4() {
     assert_eq!(cleaned(LIGHT, &SMALL, 4, 3, 4, 1), SMALL);
-    let two = tens_except(&[(5, 30), (6, 30)]);
+    // pixel 5 alone is off the trim edge and small; pixel 11 is on it
+    let two = tens_except(&[(5, 30), (6, 30), (11, 90)]);
     assert_eq!(cleaned(LIGHT, &SMALL, 4, 3, 4, 2), two);
-    assert_eq!(cleaned(LIGHT, &SMALL, 4, 3, 4, 3), tens_except(&[]));
-    assert_eq!(cleaned(LIGHT, &SMALL, 4, 3, 4, 12), tens_except(&[]));
+    let held = tens_except(&[(11, 90)]);
+    for limit in 3..=12 {
+        assert_eq!(cleaned(LIGHT, &SMALL, 4, 3, 4, limit), held);
+    }
 }
 
 #[test]
 fn light_cleaning_with_connectivity_8() {
-    let three = tens_except(&[(5, 30), (6, 30), (11, 30)]);
-    assert_eq!(cleaned(LIGHT, &SMALL, 4, 3, 8, 2), three);
-    assert_eq!(cleaned(LIGHT, &SMALL, 4, 3, 8, 3), three);
-    assert_eq!(cleaned(LIGHT, &SMALL, 4, 3, 8, 4), tens_except(&[]));
+    assert_eq!(cleaned(LIGHT, &SMALL, 4, 3, 8, 1), SMALL);
+    // pixels 5, 6 and 11 are one patch at 30, and pixel 11 is on the trim edge
+    let held = tens_except(&[(5, 30), (6, 30), (11, 90)]);
+    for limit in 2..=12 {
+        assert_eq!(cleaned(LIGHT, &SMALL, 4, 3, 8, limit), held);
+    }
 }
 
 #[test]
 fn dark_cleaning_with_connectivity_4() {
-    assert_eq!(cleaned(DARK, &SMALL, 4, 3, 4, 9), SMALL);
-    let raised: Vec<u8> = SMALL.iter().map(|&grey| grey.max(30)).collect();
-    assert_eq!(cleaned(DARK, &SMALL, 4, 3, 4, 10), raised);
+    // the one dark patch, of nine pixels, is on the trim edge
+    for limit in 1..=12 {
+        assert_eq!(cleaned(DARK, &SMALL, 4, 3, 4, limit), SMALL);
+    }
 }
 
 #[test]
@@ -102,16 +108,19 @@ fn the_size_list_of_the_small_plate() {
         connectivity: 4,
         nodes: 4,
         darkest: 10,
+        held: 80,
     };
     assert_eq!(answer, expected);
-    assert_eq!(counts, [2, 1, 0, 0, 0, 0, 0, 0, 0, 0, 0]);
-    assert_eq!(losses, [100, 40, 0, 0, 0, 0, 0, 0, 0, 0, 0]);
+    assert_eq!(counts, [1, 1, 0, 0, 0, 0, 0, 0, 0, 0, 0]);
+    assert_eq!(losses, [20, 40, 0, 0, 0, 0, 0, 0, 0, 0, 0]);
+    // losses, held and the darkest grey over every pixel make the total
+    assert_eq!(20 + 40 + 80 + 10 * 12, 9 * 10 + 50 + 30 + 90);
 }
 
 #[test]
 fn the_text_of_the_small_plate() {
     let text = sizelist_text(&plate_file(&SMALL, 4, 3));
-    assert_eq!(text, "size 4 3 4 4\n1 2 100\n2 1 40\nrest 10 96\n");
+    assert_eq!(text, "size 4 3 4 4\n1 1 20\n2 1 40\nheld 80\nrest 10 96\n");
 }
 
 #[test]
@@ -137,11 +146,11 @@ fn one_pixel_of_grey_7() {
         let record = written(&[7], 1, 1, connectivity);
         assert_eq!(record, [1, 1, connectivity as u8, 1, 7, 1, 0]);
         let (answer, counts, losses) = sized(&record, 1);
-        assert_eq!((answer.nodes, answer.darkest), (1, 7));
+        assert_eq!((answer.nodes, answer.darkest, answer.held), (1, 7, 0));
         assert!(counts.is_empty() && losses.is_empty());
     }
     let text = sizelist_text(&plate_file(&[7], 1, 1));
-    assert_eq!(text, "size 1 1 4 1\nrest 7 97\n");
+    assert_eq!(text, "size 1 1 4 1\nheld 0\nrest 7 97\n");
 }
 
 #[test]

@@ -2,7 +2,7 @@
 
 use crate::*;
 
-/// Rows 10 10 10 10 / 10 50 30 10 / 10 10 10 90.
+/// Rows 10 10 10 10 / 10 50 30 10 / 10 10 10 90. Only pixels 5 and 6 are off the trim edge.
 pub const SMALL: [u8; 12] = [10, 10, 10, 10, 10, 50, 30, 10, 10, 10, 10, 90];
 
 /// The small plate's record under connectivity 4.
@@ -262,6 +262,20 @@ pub fn plate_file(plate: &[u8], width: u32, height: u32) -> Vec<u8> {
     let mut file = format!("P5\n{width} {height}\n255\n").into_bytes();
     file.extend(plate);
     file
+}
+
+/// The plate with a border one pixel wide of a grey: none of its pixels is on the
+/// trim edge of the framed plate, which has two columns and two rows more.
+pub fn framed(plate: &[u8], width: u32, grey: u8) -> Vec<u8> {
+    let wide = width as usize + 2;
+    let mut all = vec![grey; wide];
+    for row in plate.chunks(width as usize) {
+        all.push(grey);
+        all.extend(row);
+        all.push(grey);
+    }
+    all.extend(vec![grey; wide]);
+    all
 }
 
 /// A record head without a refusal.

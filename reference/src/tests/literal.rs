@@ -42,6 +42,13 @@ fn outside(grid: &Grid, set: &[usize]) -> Vec<usize> {
         .collect()
 }
 
+/// Does the set hold a pixel of the trim edge? Such a pixel, and no other, lacks a
+/// neighbour on some side.
+fn holds_trim_edge(grid: &Grid, set: &[usize]) -> bool {
+    let sides = |p: usize| (0..grid.pixels()).filter(move |&q| touching(grid.width, 4, p, q));
+    set.iter().any(|&p| sides(p).count() < 4)
+}
+
 fn least(plate: &[u8], set: &[usize]) -> u8 {
     set.iter().map(|&p| plate[p]).min().unwrap()
 }
@@ -53,11 +60,14 @@ fn greatest(plate: &[u8], set: &[usize]) -> u8 {
 /// Runs a check on some tiny plates with all their connected sets.
 fn on_tiny_plates(check: fn(&Grid, &[u8], &[Vec<usize>])) {
     let mut random = Lcg(20);
-    for (width, height) in [(1, 1), (1, 5), (2, 2), (3, 2), (3, 3), (4, 2), (2, 5)] {
+    let on_the_edge = [(1, 1), (1, 5), (2, 2), (3, 2), (4, 2), (2, 5)];
+    let with_pixels_off_it = [(3, 3), (4, 3), (3, 4), (5, 3), (4, 4)];
+    for (width, height) in on_the_edge.into_iter().chain(with_pixels_off_it) {
         for connectivity in CONNECTIVITIES {
             let grid = Grid::new(width, height, connectivity);
             let sets = connected_sets(&grid);
-            for round in 0..60 {
+            let rounds = if grid.pixels() < 12 { 60 } else { 10 };
+            for round in 0..rounds {
                 let plate: Vec<u8> = (0..grid.pixels())
                     .map(|_| (random.below(2 + round % 5) * 40) as u8)
                     .collect();
@@ -67,20 +77,33 @@ fn on_tiny_plates(check: fn(&Grid, &[u8], &[Vec<usize>])) {
     }
 }
 
-/// At each pixel the best value among the sets that contain it and have at
-/// least the limit's pixels.
+/// At each pixel the best value among the sets that contain it and that have at
+/// least the limit's pixels or hold a trim-edge pixel. A set comes with its value
+/// and with whether it holds one.
 fn best_values(
     (pixels, limit): (usize, usize),
-    sets: &[Vec<usize>],
-    value: impl Fn(&[usize]) -> u8,
+    sets: &[(&[usize], bool, u8)],
     best: fn(u8, u8) -> u8,
 ) -> Vec<u8> {
-    let best_at = |p| {
-        let qualified = sets.iter().filter(|set| set.len() >= limit);
-        let containing = qualified.filter(|set| set.contains(&p));
-        containing.map(|set| value(set)).reduce(best).unwrap()
-    };
-    (0..pixels).map(best_at).collect()
+    let mut values = vec![None; pixels];
+    for &(set, on_edge, value) in sets {
+        if set.len() >= limit || on_edge {
+            for &p in set {
+                values[p] = Some(values[p].map_or(value, |other| best(value, other)));
+            }
+        }
+    }
+    values.into_iter().map(Option::unwrap).collect()
+}
+
+/// The sets, each with whether it holds a trim-edge pixel and with its value.
+fn valued<'a>(
+    grid: &Grid,
+    sets: impl IntoIterator<Item = &'a Vec<usize>>,
+    value: impl Fn(&[usize]) -> u8,
+) -> Vec<(&'a [usize], bool, u8)> {
+    let valued = |set: &'a Vec<usize>| (&set[..], holds_trim_edge(grid, set), value(set));
+    sets.into_iter().map(valued).collect()
 }
 
 #[test]
@@ -88,25 +111,56 @@ fn cleaned_values_go_by_connected_sets() {
     on_tiny_plates(|grid, plate, sets| {
         let (w, h, c) = (grid.width as u32, grid.height as u32, grid.connectivity);
         let n = grid.pixels();
+        let by_least = valued(grid, sets, |set| least(plate, set));
+        let by_greatest = valued(grid, sets, |set| greatest(plate, set));
         for limit in 1..=n {
-            let light = best_values((n, limit), sets, |set| least(plate, set), u8::max);
+            let light = best_values((n, limit), &by_least, u8::max);
             assert_eq!(cleaned(LIGHT, plate, w, h, c, limit as u32), light);
-            let dark = best_values((n, limit), sets, |set| greatest(plate, set), u8::min);
+            let dark = best_values((n, limit), &by_greatest, u8::min);
             assert_eq!(cleaned(DARK, plate, w, h, c, limit as u32), dark);
         }
+    });
+}
+
+/// The nodes among the sets: the components of "grey at least t" for some t.
+fn literal_nodes<'a>(grid: &Grid, plate: &[u8], sets: &'a [Vec<usize>]) -> Vec<&'a Vec<usize>> {
+    let is_node = |set: &&Vec<usize>| {
+        let (inside, around) = (least(plate, set), outside(grid, set));
+        (0..=255).any(|t| inside >= t && around.iter().all(|&p| plate[p] < t))
+    };
+    sets.iter().filter(is_node).collect()
+}
+
+#[test]
+fn cuts_and_lists_go_by_the_nodes() {
+    on_tiny_plates(|grid, plate, sets| {
+        let (w, h, c) = (grid.width as u32, grid.height as u32, grid.connectivity);
+        let n = grid.pixels();
+        let record = written(plate, w, h, c);
+        let nodes = literal_nodes(grid, plate, sets);
+        let levels = valued(grid, nodes.iter().copied(), |set| least(plate, set));
+        let total = |limit| -> u64 {
+            let cut = best_values((n, limit), &levels, u8::max);
+            assert_eq!(cut_back(&record, limit as u32, n).1, cut);
+            cut.into_iter().map(u64::from).sum()
+        };
+        let totals: Vec<u64> = (1..=n).map(total).collect();
+        let (answer, counts, losses) = sized(&record, n);
+        assert_eq!(answer.nodes as usize, nodes.len());
+        for a in 1..n {
+            let off_edge = levels.iter().filter(|node| node.0.len() == a && !node.1);
+            assert_eq!(counts[a - 1] as usize, off_edge.count());
+            assert_eq!(losses[a - 1], totals[a - 1] - totals[a]);
+        }
+        let darkest = plate.iter().copied().min().unwrap();
+        assert_eq!(answer.held, totals[n - 1] - n as u64 * u64::from(darkest));
     });
 }
 
 #[test]
 fn nodes_are_the_components_of_some_t() {
     on_tiny_plates(|grid, plate, sets| {
-        let is_component_at = |set: &Vec<usize>, t: u8| {
-            set.iter().all(|&p| plate[p] >= t) && outside(grid, set).iter().all(|&p| plate[p] < t)
-        };
-        let literal: Vec<&Vec<usize>> = sets
-            .iter()
-            .filter(|set| (0..=255).any(|t| is_component_at(set, t)))
-            .collect();
+        let literal = literal_nodes(grid, plate, sets);
         let nodes = nodes_of(grid, plate);
         assert_eq!(nodes.len(), literal.len());
         assert!(nodes.iter().all(|node| literal.contains(&&node.pixels)));
@@ -193,7 +247,7 @@ fn grey_lost_where_no_node_has_the_area_is_zero() {
         let nodes = nodes_of(&grid, &plate);
         let sizes = sizes_of(&grid, &plate, &nodes);
         for a in 1..plate.len() {
-            assert_eq!(sizes.losses[a - 1], grey_lost(&nodes, plate.len(), a));
+            assert_eq!(sizes.losses[a - 1], grey_lost(&grid, &nodes, a));
         }
     }
 }

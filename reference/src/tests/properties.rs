@@ -4,6 +4,7 @@
 use super::helpers::*;
 use crate::cleaning::negative;
 use crate::maxima::maxima_of;
+use crate::nodes::nodes_of;
 use crate::*;
 
 fn total(plate: &[u8]) -> u64 {
@@ -14,10 +15,11 @@ fn nowhere_lighter(plate: &[u8], other: &[u8]) -> bool {
     plate.iter().zip(other).all(|(grey, bound)| grey <= bound)
 }
 
-fn maxima_are_large(grid: &Grid, plate: &[u8], limit: u32) -> bool {
+/// Has every regional maximum the limit's pixels, or does it reach the trim edge?
+fn maxima_qualify(grid: &Grid, plate: &[u8], limit: u32) -> bool {
     maxima_of(grid, plate)
         .iter()
-        .all(|zone| zone.len() >= limit as usize)
+        .all(|zone| zone.len() >= limit as usize || grid.holds_trim_edge(zone))
 }
 
 #[test]
@@ -42,9 +44,12 @@ fn records_agree_with_the_node_list() {
         let columns = listed(&plate, width, height, connectivity);
         let (answer, counts, _) = sized(&written(&plate, width, height, connectivity), plate.len());
         assert_eq!(answer.nodes as usize, columns.levels.len());
+        let grid = Grid::new(width, height, connectivity);
+        let nodes = nodes_of(&grid, &plate);
         for (i, &count) in counts.iter().enumerate() {
-            let there = columns.areas.iter().filter(|&&a| a as usize == i + 1);
-            assert_eq!(there.count(), count as usize);
+            let there = (0..nodes.len()).filter(|&node| columns.areas[node] as usize == i + 1);
+            let off_edge = there.filter(|&node| !grid.holds_trim_edge(&nodes[node].pixels));
+            assert_eq!(off_edge.count(), count as usize);
         }
         for i in 1..columns.levels.len() {
             let parent = columns.parents[i] as usize;
@@ -75,33 +80,39 @@ fn check_cuts_and_list(plate: &[u8], width: u32, height: u32, connectivity: u32)
             let (answer, cut) = cut_back(&record, limit, n);
             assert_eq!(answer, head(width, height, connectivity));
             assert!(nowhere_lighter(&cut, plate));
-            assert!(maxima_are_large(&grid, &cut, limit));
+            assert!(maxima_qualify(&grid, &cut, limit));
             let light = cleaned(LIGHT, plate, width, height, connectivity, limit);
             assert_eq!(cut, light);
             cut
         })
         .collect();
-    check_list(plate, &record, &cuts);
+    check_list(&grid, plate, &record, &cuts);
 }
 
-fn check_list(plate: &[u8], record: &[u8], cuts: &[Vec<u8>]) {
+fn check_list(grid: &Grid, plate: &[u8], record: &[u8], cuts: &[Vec<u8>]) {
     let n = plate.len();
     let (answer, counts, losses) = sized(record, n);
     let darkest = plate.iter().copied().min().unwrap();
     assert_eq!(answer.darkest, darkest);
     assert_eq!(cuts[0], plate);
-    assert_eq!(cuts[n - 1], vec![darkest; n]);
+    let rest = n as u64 * u64::from(darkest);
+    assert_eq!(answer.held, total(&cuts[n - 1]) - rest);
     for a in 1..n {
         assert_eq!(losses[a - 1], total(&cuts[a - 1]) - total(&cuts[a]));
         assert_eq!(losses[a - 1] > 0, counts[a - 1] > 0);
     }
     let lost: u64 = losses.iter().sum();
-    assert_eq!(total(plate), lost + n as u64 * u64::from(darkest));
-    assert_eq!(answer.nodes, 1 + counts.iter().sum::<u32>());
+    assert_eq!(total(plate), lost + answer.held + rest);
+    let nodes = nodes_of(grid, plate);
+    let on_edge = nodes
+        .iter()
+        .filter(|node| grid.holds_trim_edge(&node.pixels));
+    let counted = counts.iter().sum::<u32>() as usize;
+    assert_eq!(answer.nodes as usize, on_edge.count() + counted);
 }
 
-/// Every plate nowhere lighter than this one and with large maxima only is
-/// nowhere lighter than the cut.
+/// Every plate nowhere lighter than this one, all of whose maxima have the limit's
+/// pixels or reach the trim edge, is nowhere lighter than the cut.
 fn check_last_property(grid: &Grid, plate: &[u8]) {
     let (w, h) = (grid.width as u32, grid.height as u32);
     let record = written(plate, w, h, grid.connectivity);
@@ -109,7 +120,7 @@ fn check_last_property(grid: &Grid, plate: &[u8]) {
         let (_, cut) = cut_back(&record, limit, plate.len());
         let mut other = vec![0; plate.len()];
         loop {
-            if maxima_are_large(grid, &other, limit) {
+            if maxima_qualify(grid, &other, limit) {
                 assert!(nowhere_lighter(&other, &cut));
             }
             if !step_below(plate, &mut other) {
@@ -132,7 +143,7 @@ fn step_below(bound: &[u8], plate: &mut [u8]) -> bool {
 }
 
 #[test]
-fn the_cut_is_the_lightest_with_large_maxima() {
+fn the_cut_is_the_lightest_such_plate() {
     let mut random = Lcg(33);
     for (width, height) in [(1, 1), (4, 1), (2, 2), (3, 2), (2, 4), (3, 3)] {
         for connectivity in CONNECTIVITIES {
@@ -142,6 +153,28 @@ fn the_cut_is_the_lightest_with_large_maxima() {
                 let plate: Vec<u8> = (0..grid.pixels())
                     .map(|_| random.below(greys) as u8)
                     .collect();
+                check_last_property(&grid, &plate);
+            }
+        }
+    }
+}
+
+/// The same on plates of four or six pixels off the trim edge, and two on it that
+/// may be light.
+#[test]
+fn the_cut_is_the_lightest_such_plate_off_the_trim_edge() {
+    let mut random = Lcg(40);
+    for (width, height) in [(4, 4), (6, 3), (3, 6), (5, 4)] {
+        for connectivity in CONNECTIVITIES {
+            let grid = Grid::new(width, height, connectivity);
+            for _ in 0..4 {
+                let n = grid.pixels() as u32;
+                let light = [random.below(n), random.below(n)];
+                let may_be_light = |p| !grid.on_trim_edge(p) || light.contains(&(p as u32));
+                let mut plate = vec![0; grid.pixels()];
+                for p in (0..plate.len()).filter(|&p| may_be_light(p)) {
+                    plate[p] = random.below(3) as u8;
+                }
                 check_last_property(&grid, &plate);
             }
         }
@@ -200,6 +233,7 @@ fn the_text_goes_by_the_size_list() {
         for a in (1..plate.len()).filter(|a| counts[a - 1] > 0) {
             lines.push(format!("{a} {} {}", counts[a - 1], losses[a - 1]));
         }
+        lines.push(format!("held {}", answer.held));
         let ink = ink_percentage(answer.darkest);
         lines.push(format!("rest {} {ink}", answer.darkest));
         let text = sizelist_text(&plate_file(&plate, width, height));
@@ -251,6 +285,7 @@ fn the_joint_operation_is_the_three_in_turn() {
         let head = lent.run(&plate, (width, height, connectivity), limit);
         assert_eq!((head.refusal, head.length), (0, record.len()));
         assert_eq!((head.nodes, head.darkest), (sizes.nodes, sizes.darkest));
+        assert_eq!(head.held, sizes.held);
         assert_eq!((lent.record, lent.out), (record, cut));
         assert_eq!((lent.counts, lent.losses), (counts, losses));
         assert!(work_zeroed(&lent.work, n));

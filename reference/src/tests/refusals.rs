@@ -534,14 +534,15 @@ fn the_text_of_refusals() {
 
 #[test]
 fn the_text_at_1024_pixels_and_4096_bytes() {
-    let held = plate_file(&[3; 1024], 1024, 1);
-    assert_eq!(sizelist_text(&held), "size 1024 1 4 1\nrest 3 99\n");
+    let most = plate_file(&[3; 1024], 1024, 1);
+    assert_eq!(sizelist_text(&most), "size 1024 1 4 1\nheld 0\nrest 3 99\n");
     let beyond = plate_file(&[3; 1025], 1025, 1);
     assert_eq!(sizelist_text(&beyond), "refused 5\n");
     let comment = vec![b'x'; 4_096 - 3 - 1 - 11];
     let full = [&b"P5 #"[..], &comment, b"\n2 1 255\nab"].concat();
     assert_eq!(full.len(), 4_096);
-    assert_eq!(sizelist_text(&full), "size 2 1 4 2\n1 1 1\nrest 97 62\n");
+    // greys 97 and 98, both on the trim edge
+    assert_eq!(sizelist_text(&full), "size 2 1 4 2\nheld 1\nrest 97 62\n");
     for over in [&full[..], &[0; 4_096], &[b'P'; 9_000]] {
         let input = [over, &[0]].concat();
         assert_eq!(sizelist_text(&input), "refused 6\n");

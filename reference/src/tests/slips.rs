@@ -18,16 +18,25 @@ fn a_patch_of_65536_pixels_stays_to_its_own_limit() {
     let record = written(&plate, width, height, 4);
     assert_eq!(cut_back(&record, 65_536, plate.len()).1, plate);
     let (answer, counts, losses) = sized(&record, plate.len());
-    assert_eq!((answer.nodes, answer.darkest), (2, 9));
+    assert_eq!((answer.nodes, answer.darkest, answer.held), (2, 9, 0));
     assert_eq!((counts[65_535], losses[65_535]), (1, 191 * 65_536));
     assert_eq!(counts.iter().sum::<u32>(), 1);
 }
 
 #[test]
 fn a_maximum_sinks_until_it_is_large_enough() {
+    // one row with a border of darker pixels: three rows of seven
+    let framed_row = |row: &[u8; 5]| framed(row, 5, 1);
+    let cleaned_row = |row, limit| cleaned(LIGHT, &framed_row(row), 7, 3, 4, limit);
     let stairs = [10, 20, 30, 40, 50];
-    assert_eq!(cleaned(LIGHT, &stairs, 5, 1, 4, 2), [10, 20, 30, 40, 40]);
-    assert_eq!(cleaned(LIGHT, &stairs, 5, 1, 4, 4), [10, 20, 20, 20, 20]);
+    assert_eq!(cleaned_row(&stairs, 2), framed_row(&[10, 20, 30, 40, 40]));
+    assert_eq!(cleaned_row(&stairs, 4), framed_row(&[10, 20, 20, 20, 20]));
+    assert_eq!(cleaned_row(&stairs, 5), framed_row(&[10; 5]));
+    assert_eq!(cleaned_row(&stairs, 6), [1; 21]);
+    // sunk once, 30 30 30 would be left
+    let steps = [10, 30, 50, 30, 10];
+    assert_eq!(cleaned_row(&steps, 4), framed_row(&[10; 5]));
+    assert_eq!(cleaned_row(&steps, 3), framed_row(&[10, 30, 30, 30, 10]));
 }
 
 #[test]
@@ -39,10 +48,30 @@ fn nothing_wraps_round_an_edge() {
         for (p, q) in apart.into_iter().chain(opposite) {
             assert!(!touching(3, connectivity, p, q));
         }
-        let beside = [1, 1, 9, 9, 1, 1];
-        assert_eq!(cleaned(LIGHT, &beside, 3, 2, connectivity, 2), [1; 6]);
-        let next_but_one = [1, 1, 9, 1, 1, 1, 9, 1, 1];
-        assert_eq!(cleaned(LIGHT, &next_but_one, 3, 3, connectivity, 2), [1; 9]);
+        // 8 and 9 touch only round an edge; then 8 would be no maximum, and one node
+        // would have both
+        let beside = [1, 1, 9, 8, 1, 1];
+        assert_eq!(marked(&beside, 3, 2, connectivity), [0, 0, 1, 1, 0, 0]);
+        assert_eq!(listed(&beside, 3, 2, connectivity).areas, [6, 1, 1]);
+        let next_but_one = [1, 1, 9, 1, 1, 1, 8, 1, 1];
+        let marks = [0, 0, 1, 0, 0, 0, 1, 0, 0];
+        assert_eq!(marked(&next_but_one, 3, 3, connectivity), marks);
+        assert_eq!(listed(&next_but_one, 3, 3, connectivity).areas, [9, 1, 1]);
+    }
+}
+
+/// Rows 1 1 9 / 9 1 1 and 1 1 9 / 1 1 1 / 9 1 1 with a border of darker pixels: the
+/// light pixels are off the trim edge and go one by one.
+#[test]
+fn nothing_wraps_inside_a_border() {
+    for connectivity in CONNECTIVITIES {
+        let beside = framed(&[1, 1, 9, 9, 1, 1], 3, 0);
+        let all_one = framed(&[1; 6], 3, 0);
+        assert_eq!(cleaned(LIGHT, &beside, 5, 4, connectivity, 2), all_one);
+        let next_but_one = framed(&[1, 1, 9, 1, 1, 1, 9, 1, 1], 3, 0);
+        let all_one = framed(&[1; 9], 3, 0);
+        let light = cleaned(LIGHT, &next_but_one, 5, 5, connectivity, 2);
+        assert_eq!(light, all_one);
     }
 }
 
@@ -53,6 +82,15 @@ fn one_grey_in_two_places_is_two_nodes() {
     assert_eq!(columns.parents, [0, 0, 0]);
     assert_eq!(columns.areas, [3, 1, 1]);
     assert_eq!(columns.anchors, [1, 0, 2]);
+    // the row 5 0 5 0 5 off the trim edge: three patches of one pixel
+    let apart = framed(&[5, 0, 5, 0, 5], 5, 0);
+    for connectivity in CONNECTIVITIES {
+        assert_eq!(cleaned(LIGHT, &apart, 7, 3, connectivity, 2), [0; 21]);
+        let (answer, counts, losses) = sized(&written(&apart, 7, 3, connectivity), 21);
+        assert_eq!((answer.nodes, answer.held), (4, 0));
+        assert_eq!((counts[0], losses[0]), (3, 15));
+        assert_eq!((&counts[1..], &losses[1..]), (&[0; 19][..], &[0; 19][..]));
+    }
 }
 
 #[test]

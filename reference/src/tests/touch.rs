@@ -132,13 +132,15 @@ const RISING: [u8; 12] = [0, 0, 0, 0, 0, 0, 9, 0, 0, 9, 0, 0];
 /// Rows 0 7 0 0 / 0 0 9 0 / 0 8 0 0.
 const BOTH: [u8; 12] = [0, 7, 0, 0, 0, 0, 9, 0, 0, 8, 0, 0];
 
-/// Cleaned on the light side the plate is this, and its negative on the dark side
-/// the negative of this.
+/// With a border of 0, so that its light pixels are off the trim edge, the plate
+/// cleaned on the light side is this, and its negative on the dark side the negative
+/// of this.
 fn assert_cleaned(plate: &[u8; 12], connectivity: u32, limit: u32, expected: &[u8; 12]) {
-    let light = cleaned(LIGHT, plate, 4, 3, connectivity, limit);
+    let (plate, expected) = (framed(plate, 4, 0), framed(expected, 4, 0));
+    let light = cleaned(LIGHT, &plate, 6, 5, connectivity, limit);
     assert_eq!(light, expected);
-    let dark = cleaned(DARK, &negative(plate), 4, 3, connectivity, limit);
-    assert_eq!(dark, negative(expected));
+    let dark = cleaned(DARK, &negative(&plate), 6, 5, connectivity, limit);
+    assert_eq!(dark, negative(&expected));
 }
 
 #[test]
@@ -195,8 +197,11 @@ fn a_record_of_six_by_hand() {
     ];
     assert_eq!(written(&BOTH, 4, 3, 6), record);
     assert_eq!(read_back(&record, 12), (head(4, 3, 6), BOTH.to_vec()));
-    let two = cut_back(&record, 2, 12).1;
-    assert_eq!(two, [0, 7, 0, 0, 0, 0, 7, 0, 0, 0, 0, 0]);
+    // pixel 6 alone is small and off the trim edge; pixels 1 and 9 are on it
+    for limit in 2..=12 {
+        let cut = cut_back(&record, limit, 12).1;
+        assert_eq!(cut, [0, 7, 0, 0, 0, 0, 7, 0, 0, 8, 0, 0]);
+    }
 }
 
 #[test]
@@ -206,16 +211,28 @@ fn size_lists_tell_the_kinds_apart() {
         (6, [2, 1, 0], [10, 14, 0]),
         (8, [1, 1, 1], [1, 2, 21]),
     ] {
-        let (answer, all_counts, all_losses) = sized(&written(&BOTH, 4, 3, connectivity), 12);
+        let plate = framed(&BOTH, 4, 0);
+        let (answer, all_counts, all_losses) = sized(&written(&plate, 6, 5, connectivity), 30);
         assert_eq!((answer.connectivity, answer.nodes), (connectivity, 4));
+        assert_eq!((answer.darkest, answer.held), (0, 0));
         assert_eq!(
             (&all_counts[..3], &all_losses[..3]),
             (&counts[..], &losses[..])
         );
-        assert_eq!(
-            (&all_counts[3..], &all_losses[3..]),
-            (&[0; 8][..], &[0; 8][..])
-        );
+        assert!(all_counts[3..].iter().all(|&count| count == 0));
+        assert!(all_losses[3..].iter().all(|&loss| loss == 0));
+    }
+}
+
+/// Without the border only pixel 6 is off the trim edge. What it loses, down to the
+/// grey that it shares with pixel 1 or 9, and what is held make 24.
+#[test]
+fn size_lists_on_the_trim_edge_tell_the_kinds_apart() {
+    for (connectivity, lost, held) in [(4, 9, 7 + 8), (6, 2, 14 + 8), (8, 1, 21 + 2)] {
+        let (answer, counts, losses) = sized(&written(&BOTH, 4, 3, connectivity), 12);
+        assert_eq!((answer.nodes, answer.darkest), (4, 0));
+        assert_eq!((counts[0], losses[0], answer.held), (1, lost, held));
+        assert_eq!((&counts[1..], &losses[1..]), (&[0; 10][..], &[0; 10][..]));
     }
 }
 
