@@ -7,6 +7,8 @@ SECOND := --offline --manifest-path reference/Cargo.toml
 DEMO := target/demo
 # specks of up to 0.1 mm at 600 dots an inch: README, Choosing the limit
 DEMO_LIMIT := 17
+# above the pixels of every snowfield of the map
+EDGE_LIMIT := 500
 # the greatest number of pixels in `make bench`, for the proved functions and for the peers
 BENCH_PIXELS ?= 16777216
 PEER_PIXELS ?= 4194304
@@ -45,17 +47,19 @@ $(SHARED): $(ARCHIVE) install/livukoe.map
 	cc -shared -o $@ -Wl,-soname,$(SONAME) -Wl,--version-script=install/livukoe.map -Wl,-z,text -Wl,-z,noexecstack \
 	    -Wl,--whole-archive $(ARCHIVE) -Wl,--no-whole-archive
 
-# takes the dust off a relief map, and leaves docs/before.png and docs/after.png
+# takes the dust off a relief map, then its snowfields, of which the one that runs off the sheet stays: docs/before.png,
+# docs/after.png, docs/edge.png
 demo: all
 	rm -rf $(DEMO)
 	mkdir -p $(DEMO)
 	bin/livukoe-demo relief $(DEMO)/before.pgm
 	bin/livukoe clean --side light --limit $(DEMO_LIMIT) $(DEMO)/before.pgm $(DEMO)/between.pgm
 	bin/livukoe clean --side dark --limit $(DEMO_LIMIT) $(DEMO)/between.pgm $(DEMO)/after.pgm
-	bin/livukoe-demo png $(DEMO)/before.pgm docs/before.png
-	bin/livukoe-demo png $(DEMO)/after.pgm docs/after.png
-	@echo "The map with dust on it is docs/before.png, the cleaned one docs/after.png;"
-	@echo "as plate files they are $(DEMO)/before.pgm and $(DEMO)/after.pgm."
+	bin/livukoe clean --side light --limit $(EDGE_LIMIT) $(DEMO)/after.pgm $(DEMO)/edge.pgm
+	for name in before after edge; do bin/livukoe-demo png $(DEMO)/$$name.pgm docs/$$name.png || exit 1; done
+	@echo "The map with dust on it is docs/before.png, the cleaned one docs/after.png. docs/edge.png is the same after"
+	@echo "--limit $(EDGE_LIMIT) on the light side: the snowfields inside are gone, the one that runs off the lower border is there."
+	@echo "As plate files they are $(DEMO)/before.pgm, after.pgm and edge.pgm."
 
 # the proved functions against the second program, on plates, files and records by chance; the tool; what is installed
 test: library reference

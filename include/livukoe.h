@@ -6,7 +6,8 @@
  *
  * A plate is width x height greys, one byte each, row by row from the top left. Width and height are 1 to 32768, their
  * product, the pixels, at most 16777216. Connectivity says which pixels touch a pixel: 4 (left, right, above, below), 6
- * (those, the upper left and the lower right) or 8 (those four and all corners).
+ * (those, the upper left and the lower right) or 8 (those four and all corners). The trim edge is the first and last row
+ * and the first and last column.
  *
  * Every buffer is a pointer and the number of its elements. The caller answers for this, and for nothing else: each
  * pointer is not null (also where the number is 0), aligned for its type, and valid for that many elements; no buffer
@@ -113,9 +114,16 @@ static inline const char *livukoe_refusal_text(uint32_t refusal)
 }
 
 /* Cleans a plate on a side (enum livukoe_side). On the light side each pixel gets the greatest t for which a connected
- * set of at least `limit` pixels contains it, with no grey below t, so that light patches of fewer pixels go. On the
- * dark side it gets 255 minus the same of 255 minus each grey, so that dark patches go. Refusals 26, 1, 2, 3, 4, 5, 6.
- * Returns the refusal. */
+ * set contains it that has no grey below t, and that has at least `limit` pixels or holds a pixel of the trim edge. So
+ * light patches of fewer pixels go, but one that reaches the trim edge stays whatever the limit, since the next sheet
+ * shows the remainder. On the dark side each pixel gets 255 minus the same of 255 minus each grey, which does to dark
+ * patches what the light side does to light ones.
+ *
+ * The area opening of the literature has no trim edge. For it put a frame one pixel wide around the plate, of 0 for the
+ * light side and of 255 for the dark side, and take it off afterwards: only the frame is then on the trim edge, and no
+ * patch inside reaches it.
+ *
+ * Refusals 26, 1, 2, 3, 4, 5, 6. Returns the refusal. */
 uint32_t livukoe_clean(
     uint32_t side, const uint8_t *image, size_t image_length, uint32_t width, uint32_t height, uint32_t connectivity,
     uint32_t limit, uint8_t *out, size_t out_length, uint32_t *work, size_t work_length);
@@ -186,8 +194,8 @@ struct livukoe_record_head {
 struct livukoe_record_head livukoe_read_record(
     const uint8_t *bytes, size_t bytes_length, uint8_t *out, size_t out_length, uint32_t *work, size_t work_length);
 
-/* Cuts a record at a limit: `out` gets its plate, cleaned on the light side under its connectivity. Refusals as for
- * reading up to 24, then 4, 5. */
+/* Cuts a record at a limit: `out` gets its plate, cleaned on the light side under its connectivity, so that patches
+ * that reach the trim edge stay. Refusals as for reading up to 24, then 4, 5. */
 struct livukoe_record_head livukoe_cut_record(
     const uint8_t *bytes, size_t bytes_length, uint32_t limit,
     uint8_t *out, size_t out_length, uint32_t *work, size_t work_length);
@@ -197,13 +205,15 @@ struct livukoe_size_head {
     uint32_t width;
     uint32_t height;
     uint32_t connectivity;
-    uint32_t nodes;   /* their number */
+    uint32_t nodes;   /* their number, with those that reach the trim edge */
     uint32_t darkest; /* the least grey */
+    uint64_t held;    /* the total grey of the cut at the limit `pixels`, less the darkest grey times the pixels */
 };
 
 /* The size list (pattern spectrum) of a record: for each area a from 1 to pixels - 1, counts[a - 1] is the number of
- * nodes of that area, and losses[a - 1] the sum over the pixels of the cut at a minus the cut at a + 1. Refusals as for
- * reading up to 24, then 5 when either table has fewer than pixels - 1 places. */
+ * nodes of that area off the trim edge, which hold no pixel of it, and losses[a - 1] the sum over the pixels of the cut
+ * at a minus the cut at a + 1. All losses, held and the darkest grey times the pixels make the plate's total grey.
+ * Refusals as for reading up to 24, then 5 when either table has fewer than pixels - 1 places. */
 struct livukoe_size_head livukoe_size_list(
     const uint8_t *bytes, size_t bytes_length, uint32_t *counts, size_t counts_length,
     uint64_t *losses, size_t losses_length, uint32_t *work, size_t work_length);
@@ -211,14 +221,16 @@ struct livukoe_size_head livukoe_size_list(
 struct livukoe_joint {
     uint32_t refusal;
     size_t length;    /* of the record, in bytes */
-    uint32_t nodes;   /* their number */
-    uint32_t darkest; /* the least grey */
+    uint32_t nodes;   /* as in livukoe_size_head */
+    uint32_t darkest;
+    uint64_t held;
 };
 
 /* Writes the record of a plate, cuts it at a limit and lists its sizes, with the exact bytes passed on: `bytes` is as
- * livukoe_write_record leaves it, `out` as livukoe_cut_record, the tables as livukoe_size_list. Refusals 1, 2, 3, 4;
- * then 5 when `out` is shorter than the pixels or either table has fewer than pixels - 1 places; then 6; then 5 when
- * the record needs more bytes than were lent, which leaves the work space zeroed. No output is written on a refusal. */
+ * livukoe_write_record leaves it, `out` as livukoe_cut_record, the tables as livukoe_size_list, which count only nodes
+ * off the trim edge. Refusals 1, 2, 3, 4; then 5 when `out` is shorter than the pixels or either table has fewer than
+ * pixels - 1 places; then 6; then 5 when the record needs more bytes than were lent, which leaves the work space zeroed.
+ * No output is written on a refusal. */
 struct livukoe_joint livukoe_write_cut_list(
     const uint8_t *image, size_t image_length, uint32_t width, uint32_t height, uint32_t connectivity, uint32_t limit,
     uint8_t *bytes, size_t bytes_length, uint8_t *out, size_t out_length, uint32_t *counts, size_t counts_length,

@@ -39,6 +39,7 @@ impl Joint {
             connectivity: image.connectivity,
             nodes: answer.nodes,
             darkest: answer.darkest,
+            held: answer.held,
         };
         Ok(Joint {
             record: Record::written(bytes, answer.length),

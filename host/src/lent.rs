@@ -196,6 +196,7 @@ pub struct SizeHead {
     pub connectivity: u32,
     pub nodes: u32,
     pub darkest: u32,
+    pub held: u64,
 }
 
 /// What writing, cutting and listing at once answer.
@@ -206,6 +207,7 @@ pub struct JointHead {
     pub length: usize,
     pub nodes: u32,
     pub darkest: u32,
+    pub held: u64,
 }
 
 /// A plate as a caller has it, with the connectivity that an operation goes by. Nothing is checked here.
@@ -257,7 +259,8 @@ macro_rules! call {
     ($function:expr, $($rest:tt)*) => { call!(@ $function, [] $($rest)*,) };
 }
 
-/// Cleans a plate at a limit on a side, 1 for light patches and 2 for dark ones.
+/// Cleans a plate at a limit on a side, 1 for light patches and 2 for dark ones. Patches that reach the trim edge, the
+/// first or last row or column, stay at every limit.
 pub fn clean(side: u32, image: Image, limit: u32, out: &mut [u8], work: &mut [u32]) -> u32 {
     call!(c::livukoe_clean, side, plate image, limit, write out, write work)
 }
@@ -301,12 +304,13 @@ pub fn read_record(bytes: &[u8], out: &mut [u8], work: &mut [u32]) -> RecordHead
     call!(c::livukoe_read_record, read bytes, write out, write work)
 }
 
-/// Cuts a record at a limit.
+/// Cuts a record at a limit: its plate, cleaned on the light side.
 pub fn cut_record(bytes: &[u8], limit: u32, out: &mut [u8], work: &mut [u32]) -> RecordHead {
     call!(c::livukoe_cut_record, read bytes, limit, write out, write work)
 }
 
-/// The size list of a record: at place a - 1 the number of nodes of area a, and the grey that is lost at it.
+/// The size list of a record: at place a - 1 the number of nodes of area a off the trim edge, and the grey that is lost at
+/// it. `held` is the grey, above the darkest, of the cut at the full limit.
 pub fn size_list(
     bytes: &[u8],
     counts: &mut [u32],

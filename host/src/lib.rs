@@ -1,9 +1,9 @@
 //! Verified cleaning of grey images.
 //!
 //! A [`Plate`] is a grey image. [`Plate::clean`] takes away the patches of a [`Side`], light or dark, that are smaller
-//! than a limit; [`Plate::regional_maxima`] marks maxima; [`Plate::nodes`] lists the nodes of the component tree
-//! (max-tree). A [`Record`] is the canonical description of a plate: it can be read back, cut at any limit and turned
-//! into a [`SizeList`].
+//! than a limit and do not reach the border of the plate; [`Plate::regional_maxima`] marks maxima; [`Plate::nodes`] lists
+//! the nodes of the component tree (max-tree). A [`Record`] is the canonical description of a plate: it can be read back,
+//! cut at any limit and turned into a [`SizeList`].
 //!
 //! Every answer comes from a function that is proved against its definition. This crate lends those functions buffers
 //! of the right sizes and turns their refusals into [`Refusal`]. It checks nothing a second time, except that a record
@@ -15,7 +15,7 @@
 //!
 //! let plate = Plate::new(4, 3, vec![10, 10, 10, 10, 10, 50, 30, 10, 10, 10, 10, 90]);
 //! let clean = plate.clean(Side::Light, Connectivity::Four, 2)?;
-//! assert_eq!(clean.greys(), [10, 10, 10, 10, 10, 30, 30, 10, 10, 10, 10, 10]);
+//! assert_eq!(clean.greys(), [10, 10, 10, 10, 10, 30, 30, 10, 10, 10, 10, 90]);
 //! # Ok::<(), livukoe::Refusal>(())
 //! ```
 

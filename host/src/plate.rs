@@ -69,7 +69,51 @@ impl Plate {
         format!("P5\n{} {}\n255\n", self.width, self.height)
     }
 
-    /// The plate cleaned at a limit: the patches of a side that have fewer pixels are taken away.
+    /// The plate in a frame of this grey, one pixel wide.
+    ///
+    /// ```
+    /// let framed = livukoe::Plate::new(2, 1, vec![7, 9]).framed(0);
+    /// assert_eq!(framed.greys(), [0, 0, 0, 0, 0, 7, 9, 0, 0, 0, 0, 0]);
+    /// assert_eq!(framed.unframed().greys(), [7, 9]);
+    /// ```
+    pub fn framed(&self, grey: u8) -> Plate {
+        let line = vec![grey; self.width as usize + 2];
+        let rows = self.greys.chunks(self.width.max(1) as usize);
+        let rows = rows.flat_map(|row| [&[grey], row, &[grey]].concat());
+        let greys = line.iter().copied().chain(rows).chain(line.clone());
+        let (width, height) = (self.width.saturating_add(2), self.height.saturating_add(2));
+        Plate::new(width, height, greys.collect())
+    }
+
+    /// The plate without its first and last row and column.
+    pub fn unframed(&self) -> Plate {
+        let (width, height) = (self.width.saturating_sub(2), self.height.saturating_sub(2));
+        let rows = self.greys.chunks(self.width.max(1) as usize).skip(1);
+        let rows = rows.take(height as usize);
+        let greys = rows.flat_map(|row| row.iter().copied().skip(1).take(width as usize));
+        Plate::new(width, height, greys.collect())
+    }
+
+    /// The plate cleaned at a limit: the patches of a side that have fewer pixels are taken away. A patch that reaches
+    /// the first or last row or column (the trim edge) stays whatever the limit, since the next sheet shows the
+    /// remainder.
+    ///
+    /// The area opening of the literature has no trim edge. For it clean the plate in a frame, [`Plate::framed`], of 0
+    /// for the light side and of 255 for the dark side: only the frame is then on the trim edge, and no patch inside
+    /// reaches it.
+    ///
+    /// ```
+    /// use livukoe::{Connectivity, Plate, Side};
+    ///
+    /// // two light pixels, of which the one in the corner stays
+    /// let plate = Plate::new(3, 3, vec![9, 0, 0, 0, 9, 0, 0, 0, 0]);
+    /// let clean = plate.clean(Side::Light, Connectivity::Four, 2)?;
+    /// assert_eq!(clean.greys(), [9, 0, 0, 0, 0, 0, 0, 0, 0]);
+    ///
+    /// let clean = plate.framed(0).clean(Side::Light, Connectivity::Four, 2)?;
+    /// assert_eq!(clean.unframed().greys(), [0; 9]);
+    /// # Ok::<(), livukoe::Refusal>(())
+    /// ```
     pub fn clean(
         &self,
         side: Side,

@@ -104,7 +104,7 @@ impl Record {
         WorkSpace::new().cut(self, limit)
     }
 
-    /// The size list (pattern spectrum).
+    /// The size list (pattern spectrum) of the nodes off the trim edge.
     pub fn sizes(&self) -> Result<SizeList, Refusal> {
         WorkSpace::new().sizes(self)
     }

@@ -5,7 +5,20 @@ use std::fmt;
 use crate::lent::{self, SizeHead};
 use crate::refusal::Refusal;
 
-/// How many nodes have each area, and how much grey is lost when the limit passes it.
+/// How many nodes off the trim edge have each area, and how much grey is lost when the limit passes it. The trim edge is
+/// the first and last row and column; what reaches it is never lost.
+///
+/// All losses, the grey that is held and the darkest grey times the pixels make the plate's total grey:
+///
+/// ```
+/// use livukoe::{Connectivity, Plate};
+///
+/// let plate = Plate::new(4, 3, vec![10, 10, 10, 10, 10, 50, 30, 10, 10, 10, 10, 90]);
+/// let list = plate.record(Connectivity::Four)?.sizes()?;
+/// let lost: u64 = list.sizes().map(|size| size.loss).sum();
+/// assert_eq!((lost, list.held(), list.darkest()), (60, 80, 10)); // of 60 + 80 + 10 x 12
+/// # Ok::<(), livukoe::Refusal>(())
+/// ```
 ///
 /// Its `Display` is the text of the program sizelist.
 #[derive(Clone, Debug, PartialEq, Eq)]
@@ -19,7 +32,7 @@ pub struct SizeList {
 #[derive(Clone, Copy, Debug, PartialEq, Eq)]
 pub struct Size {
     pub area: usize,
-    /// The number of nodes of this area.
+    /// The number of nodes of this area that hold no pixel of the trim edge.
     pub count: u32,
     /// The sum over the pixels of the cut at this area minus the cut at the next.
     pub loss: u64,
@@ -47,7 +60,7 @@ impl SizeList {
         }
     }
 
-    /// The number of nodes of the plate.
+    /// The number of nodes of the plate, with those that reach the trim edge.
     pub fn nodes(&self) -> u32 {
         self.head.nodes
     }
@@ -57,7 +70,13 @@ impl SizeList {
         self.head.darkest as u8
     }
 
-    /// The areas that some node has, rising, but for the whole plate's.
+    /// The grey that stays at every limit, above the darkest: the total grey of the cut at the full limit, which is the
+    /// number of pixels, less the darkest grey times the pixels.
+    pub fn held(&self) -> u64 {
+        self.head.held
+    }
+
+    /// The areas that some node off the trim edge has, rising.
     pub fn sizes(&self) -> impl Iterator<Item = Size> + '_ {
         let tables = self.counts.iter().zip(&self.losses);
         tables
@@ -78,12 +97,14 @@ impl fmt::Display for SizeList {
             height,
             connectivity,
             nodes,
+            held,
             ..
         } = self.head;
         writeln!(f, "size {width} {height} {connectivity} {nodes}")?;
         for Size { area, count, loss } in self.sizes() {
             writeln!(f, "{area} {count} {loss}")?;
         }
+        writeln!(f, "held {held}")?;
         let ink = lent::ink_percentage(self.darkest());
         writeln!(f, "rest {} {ink}", self.darkest())
     }

@@ -49,7 +49,7 @@ fn check_record(plate: &Plate, connectivity: Connectivity, limit: u32) {
     let sizes = record.sizes().expect("a size list");
     let lost: u64 = sizes.sizes().map(|size| size.loss).sum();
     let rest = u64::from(sizes.darkest()) * plate.greys().len() as u64;
-    assert_eq!(lost + rest, total(plate), "all grey is lost or rests");
+    assert_eq!(lost + sizes.held() + rest, total(plate), "all grey");
     let below = sizes.sizes().filter(|size| size.area < limit as usize);
     let lost_below: u64 = below.map(|size| size.loss).sum();
     assert_eq!(
@@ -58,11 +58,10 @@ fn check_record(plate: &Plate, connectivity: Connectivity, limit: u32) {
         "lost below the limit"
     );
     let counted: u64 = sizes.sizes().map(|size| u64::from(size.count)).sum();
-    assert_eq!(
-        counted + 1,
-        u64::from(sizes.nodes()),
-        "every node but the root"
-    );
+    let kept = without_light(plate, connectivity, plate.greys().len() as u32);
+    assert_eq!(sizes.held() + rest, total(&kept), "what no limit takes");
+    let on_edge = kept.nodes(connectivity).expect("nodes").len() as u64;
+    assert_eq!(counted + on_edge, u64::from(sizes.nodes()), "every node");
 }
 
 /// What holds of a plate's nodes and its maxima.
@@ -147,12 +146,18 @@ fn long_and_thin() {
     }
 }
 
-/// A light patch of so many pixels, row by row, on a dark plate.
+/// The width and height of a plate with a patch, and the patch's first pixel.
+const EXTENT: usize = 300;
+const FIRST: usize = EXTENT + 1;
+
+/// A light patch of so many pixels, row by row, on a dark plate whose trim edge it does not reach.
 fn patch(pixels: usize) -> Plate {
-    let (width, height) = (300, 300);
-    let mut greys = vec![20; width * height];
-    greys[..pixels].fill(200);
-    Plate::new(width as u32, height as u32, greys)
+    let inside = EXTENT - 2;
+    let mut greys = vec![20; EXTENT * EXTENT];
+    for i in 0..pixels {
+        greys[FIRST + i / inside * EXTENT + i % inside] = 200;
+    }
+    Plate::new(EXTENT as u32, EXTENT as u32, greys)
 }
 
 /// A patch stays at every limit up to its area, and goes at the next.
@@ -165,7 +170,7 @@ fn patches_about_65536() {
                 let clean = without_light(&plate, connectivity, limit);
                 let stays = limit as usize <= area;
                 assert_eq!(
-                    clean.greys()[0],
+                    clean.greys()[FIRST],
                     if stays { 200 } else { 20 },
                     "{area}, {limit}"
                 );
@@ -182,12 +187,13 @@ fn patches_about_65536() {
         let loss = 180 * area;
         assert_eq!(
             text,
-            format!("size 300 300 4 2\n{area} 1 {loss}\nrest 20 92\n")
+            format!("size 300 300 4 2\n{area} 1 {loss}\nheld 0\nrest 20 92\n")
         );
     }
 }
 
-/// Small patches strewn over a plate: those below the limit go, the others stay whole.
+/// Small patches strewn over a plate: those below the limit go, but for the ones in the first row or column; the others
+/// stay whole.
 #[test]
 fn strewn_patches() {
     let mut chance = Chance::new(13);
@@ -200,7 +206,7 @@ fn strewn_patches() {
         let grey = 11 + chance.below(240) as u8;
         for p in (0..w * h).map(|i| (y + i / w) * width + x + i % w) {
             greys[p] = grey;
-            if w * h >= 25 {
+            if w * h >= 25 || x == 0 || y == 0 {
                 wanted[p] = grey;
             }
         }

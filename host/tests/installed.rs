@@ -88,7 +88,7 @@ fn every_file() {
         "include/livukoe.h",
         "lib/liblivukoe.a",
         "lib/liblivukoe.so",
-        "lib/liblivukoe.so.2",
+        "lib/liblivukoe.so.3",
         &format!("lib/liblivukoe.so.{VERSION}"),
         "lib/pkgconfig/livukoe.pc",
         "share/bash-completion/completions/livukoe",
@@ -109,7 +109,7 @@ fn the_shared_library() {
     assert_eq!(answer, ANSWER);
     // it runs with the library of that name and with no other
     let lonely = Command::new(&program).output().expect("a run");
-    assert!(String::from_utf8_lossy(&lonely.stderr).contains("liblivukoe.so.2"));
+    assert!(String::from_utf8_lossy(&lonely.stderr).contains("liblivukoe.so.3"));
 }
 
 /// The words that compile a program with what is installed, by its livukoe.pc.
@@ -164,7 +164,7 @@ fn exported_names() {
     assert_eq!(functions, declared().into_iter().collect());
     assert!(names
         .lines()
-        .all(|line| line.contains(" T ") || line.starts_with("LIVUKOE_2")));
+        .all(|line| line.contains(" T ") || line.starts_with("LIVUKOE_3")));
 }
 
 /// The tool runs, and the man page and the completions have each of its commands.

@@ -153,6 +153,7 @@ fn listing_sizes() {
             connectivity: wanted.connectivity,
             nodes: wanted.nodes,
             darkest: u32::from(wanted.darkest),
+            held: wanted.held,
         };
         assert_eq!(answer, wanted, "{record:?}");
         assert_eq!(
@@ -198,6 +199,7 @@ fn at_once(plate: &Plate, limit: u32, lent: &mut Buffers) -> lent::JointHead {
         length: head.length,
         nodes: head.nodes,
         darkest: u32::from(head.darkest),
+        held: head.held,
     }
 }
 

@@ -20,15 +20,22 @@ fn run_line(line: &str, input: &[u8]) -> Output {
 fn the_small_plate() {
     let light = run_on(&CLEAN, SMALL);
     assert_ok(&light);
-    let wanted = [10, 10, 10, 10, 10, 30, 30, 10, 10, 10, 10, 10];
+    let wanted = [10, 10, 10, 10, 10, 30, 30, 10, 10, 10, 10, 90];
     assert_eq!(light.stdout, small_file(wanted));
-    let eight = run_line("clean --limit=3 --connectivity=8 --side=light - -", SMALL);
-    let wanted = [10, 10, 10, 10, 10, 30, 30, 10, 10, 10, 10, 30];
+    let eight = run_line("clean --limit=12 --connectivity=8 --side=light - -", SMALL);
     assert_eq!(eight.stdout, small_file(wanted));
+    let four = run_line("clean --limit=12 --side=light - -", SMALL);
+    let wanted = [10, 10, 10, 10, 10, 10, 10, 10, 10, 10, 10, 90];
+    assert_eq!(four.stdout, small_file(wanted));
     let dark = run_line("clean --side dark --limit 10 - -", SMALL);
     assert_ok(&dark);
-    let wanted = [30, 30, 30, 30, 30, 50, 30, 30, 30, 30, 30, 90];
-    assert_eq!(dark.stdout, small_file(wanted));
+    assert_eq!(dark.stdout, SMALL);
+    let hole = b"P5\n3 3\n255\n\x5a\x50\x5a\x5a\x0a\x5a\x5a\x5a\x5a";
+    let dark = run_line("clean --side dark --limit 2 - -", hole);
+    assert_eq!(
+        dark.stdout,
+        b"P5\n3 3\n255\n\x5a\x50\x5a\x5a\x50\x5a\x5a\x5a\x5a"
+    );
     let maxima = run_on(&["maxima", "-", "-"], SMALL);
     let wanted = [0, 0, 0, 0, 0, 255, 0, 0, 0, 0, 0, 255];
     assert_eq!(maxima.stdout, small_file(wanted));
@@ -57,16 +64,29 @@ fn sides() {
 /// Two light pixels of 50 touch on the falling diagonal, with 6 and 8; two of 90 on the rising one, with 8 alone. By each
 /// kind: what is left of them at the limit 2, and the size list.
 const KINDS: [(u8, u8, u8, &str); 3] = [
-    (4, 10, 10, "size 4 3 4 5\n1 4 240\nrest 10 96\n"),
-    (6, 50, 10, "size 4 3 6 4\n1 2 160\n2 1 80\nrest 10 96\n"),
-    (8, 50, 90, "size 4 3 8 3\n2 1 80\n4 1 160\nrest 10 96\n"),
+    (4, 10, 10, "size 6 5 4 5\n1 4 240\nheld 0\nrest 10 96\n"),
+    (
+        6,
+        50,
+        10,
+        "size 6 5 6 4\n1 2 160\n2 1 80\nheld 0\nrest 10 96\n",
+    ),
+    (
+        8,
+        50,
+        90,
+        "size 6 5 8 3\n2 1 80\n4 1 160\nheld 0\nrest 10 96\n",
+    ),
 ];
 
-/// The plate file with these two pairs.
+/// The plate file with these two pairs, off the trim edge.
 fn pairs(falling: u8, rising: u8) -> Vec<u8> {
-    small_file([
-        10, 10, 10, rising, falling, 10, rising, 10, 10, falling, 10, 10,
-    ])
+    let mut greys = [10; 30];
+    greys[13] = falling;
+    greys[20] = falling;
+    greys[10] = rising;
+    greys[15] = rising;
+    [b"P5\n6 5\n255\n", &greys[..]].concat()
 }
 
 #[test]
@@ -100,10 +120,10 @@ fn texts() {
     assert_eq!(text(&nodes.stdout), wanted);
     let sizes = run_on(&["sizelist", "-"], SMALL);
     assert_ok(&sizes);
-    let wanted = "size 4 3 4 4\n1 2 100\n2 1 40\nrest 10 96\n";
+    let wanted = "size 4 3 4 4\n1 1 20\n2 1 40\nheld 80\nrest 10 96\n";
     assert_eq!(text(&sizes.stdout), wanted);
     let one = run_on(&["sizelist", "-"], b"P5 1 1 255\n\x07");
-    assert_eq!(text(&one.stdout), "size 1 1 4 1\nrest 7 97\n");
+    assert_eq!(text(&one.stdout), "size 1 1 4 1\nheld 0\nrest 7 97\n");
 }
 
 #[test]

@@ -15,7 +15,7 @@ use std::time::Duration;
 use tool_common::*;
 
 /// What `clean --side light --limit 2` makes of the small plate.
-const CLEANED: [u8; 12] = [10, 10, 10, 10, 10, 30, 30, 10, 10, 10, 10, 10];
+const CLEANED: [u8; 12] = [10, 10, 10, 10, 10, 30, 30, 10, 10, 10, 10, 90];
 const CLEAN: [&str; 5] = ["clean", "--side", "light", "--limit", "2"];
 /// Nobody's number as a user and as a group.
 const NOBODY: u32 = 65_534;

@@ -42,11 +42,14 @@ fn plates_that_are_none() {
 #[test]
 fn both_sides() {
     let light = small().clean(Side::Light, Connectivity::Four, 2);
-    let wanted = vec![10, 10, 10, 10, 10, 30, 30, 10, 10, 10, 10, 10];
+    let wanted = vec![10, 10, 10, 10, 10, 30, 30, 10, 10, 10, 10, 90];
     assert_eq!(light, Ok(Plate::new(4, 3, wanted)));
     let dark = small().clean(Side::Dark, Connectivity::Four, 10);
-    let wanted = vec![30, 30, 30, 30, 30, 50, 30, 30, 30, 30, 30, 90];
-    assert_eq!(dark, Ok(Plate::new(4, 3, wanted)));
+    assert_eq!(dark, Ok(small()), "every dark patch reaches the trim edge");
+    let hole = Plate::new(3, 3, vec![90, 80, 90, 90, 10, 90, 90, 90, 90]);
+    let dark = hole.clean(Side::Dark, Connectivity::Four, 2);
+    let wanted = vec![90, 80, 90, 90, 80, 90, 90, 90, 90];
+    assert_eq!(dark, Ok(Plate::new(3, 3, wanted)));
 }
 
 #[test]
@@ -79,8 +82,8 @@ fn records_that_are_none() {
 /// The record of the small plate by each kind: pixel 11 is the lower right of pixel 6, which it touches with 6 and 8.
 #[test]
 fn records_of_each_kind() {
-    let apart = ([1, 20, 2, 1, 20, 1, 3, 80, 1], "1 2 100\n2 1 40\n");
-    let touching = ([1, 20, 3, 1, 20, 1, 2, 60, 1], "1 2 80\n3 1 60\n");
+    let apart = ([1, 20, 2, 1, 20, 1, 3, 80, 1], "1 1 20\n2 1 40\nheld 80\n");
+    let touching = ([1, 20, 3, 1, 20, 1, 2, 60, 1], "1 1 20\nheld 120\n");
     for (number, (nodes, list)) in [(4, apart), (6, touching), (8, touching)] {
         let connectivity = Connectivity::try_from(u32::from(number)).expect("a connectivity");
         let record = small().record(connectivity).expect("a record");

@@ -66,6 +66,7 @@ pub struct Buffers {
     columns: [Vec<u32>; 4],
     list: Vec<Node>,
     losses: Vec<u64>,
+    held: u64,
     work: Vec<u32>,
 }
 
@@ -84,6 +85,7 @@ impl<'a> Bench<'a> {
                 columns: std::array::from_fn(|_| vec![1; pixels]),
                 list: vec![Node::default(); pixels],
                 losses: vec![1; pixels],
+                held: 1,
                 work,
             },
             record: record.bytes().to_vec(),
@@ -114,7 +116,10 @@ impl<'a> Bench<'a> {
             "plate" => proved::read_record(lent.record, lent.greys, lent.work).refusal,
             "cut" => proved::cut_record(lent.record, LIMIT, lent.greys, lent.work).refusal,
             "sizelist" => {
-                proved::size_list(lent.record, lent.columns.areas, lent.losses, lent.work).refusal
+                let counts = lent.columns.areas;
+                let head = proved::size_list(lent.record, counts, lent.losses, lent.work);
+                *lent.held = head.held;
+                head.refusal
             }
             "read" => proved::read_pgm(lent.file, lent.greys).refusal,
             _ => panic!("no operation is called {operation}"),
@@ -136,12 +141,9 @@ impl<'a> Bench<'a> {
             "plate" => twin_records::read_record::<CHECKED>(lent.record, lent.greys, lent.work),
             "cut" => twin_records::cut_record::<CHECKED>(lent.record, LIMIT, lent.greys, lent.work),
             "sizelist" => {
-                twin_records::size_list::<CHECKED>(
-                    lent.record,
-                    lent.columns.areas,
-                    lent.losses,
-                    lent.work,
-                );
+                let counts = lent.columns.areas;
+                *lent.held =
+                    twin_records::size_list::<CHECKED>(lent.record, counts, lent.losses, lent.work);
             }
             "read" => twin_records::read_pgm(lent.file, lent.greys),
             _ => panic!("no operation is called {operation}"),
@@ -170,6 +172,7 @@ impl<'a> Bench<'a> {
             },
             list: &mut self.buffers.list,
             losses: &mut self.buffers.losses,
+            held: &mut self.buffers.held,
             work: &mut self.buffers.work,
         }
     }
@@ -184,5 +187,6 @@ struct Parts<'a> {
     columns: NodeColumns<'a>,
     list: &'a mut [Node],
     losses: &'a mut [u64],
+    held: &'a mut u64,
     work: &'a mut [u32],
 }

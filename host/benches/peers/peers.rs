@@ -15,8 +15,8 @@ pub struct PeerTiming {
     pub pixels: usize,
     /// None where it crashed.
     pub seconds: Option<f64>,
-    /// How many pixels of its opening differ from the plate that the proved function cleaned.
-    pub differing: usize,
+    /// How many pixels of its opening differ from that of the proved function; none where that was not made.
+    pub differing: Option<usize>,
 }
 
 pub const ITK_OPENING: &str = "ITK AreaOpeningImageFilter";
@@ -57,24 +57,35 @@ impl Peers {
         let input = self.folder.join("plate.pgm");
         let header = plate.pgm_header();
         fs::write(&input, [header.as_bytes(), plate.greys()].concat()).expect("a plate file");
-        let clean = plate.clean(Side::Light, Connectivity::Four, LIMIT);
-        let clean = clean.expect("a clean plate");
+        let opening = area_opening(plate);
         let measure = |(peer, words): &(&'static str, Vec<PathBuf>)| {
             let output = self.folder.join("answer.raw");
             let _ = fs::remove_file(&output); // there is none at first
             let seconds = run(words, &input, &output, plate.greys().len());
             let answer = fs::read(&output).unwrap_or_default();
-            let pairs = answer.iter().zip(clean.greys());
+            let differing = |opening: &Plate| {
+                let pairs = answer.iter().zip(opening.greys());
+                pairs.filter(|(one, other)| one != other).count()
+            };
             PeerTiming {
                 peer,
                 kind,
                 pixels: plate.greys().len(),
                 seconds,
-                differing: pairs.filter(|(one, other)| one != other).count(),
+                differing: opening.as_ref().map(differing),
             }
         };
         self.commands.iter().map(measure).collect()
     }
+}
+
+/// The opening that the peers make, which has no trim edge: the plate is cleaned in a black frame. None where the framed
+/// plate is beyond the grid.
+fn area_opening(plate: &Plate) -> Option<Plate> {
+    let clean = plate
+        .framed(0)
+        .clean(Side::Light, Connectivity::Four, LIMIT);
+    clean.ok().map(|clean| clean.unframed())
 }
 
 fn succeeds(command: &mut Command) -> bool {

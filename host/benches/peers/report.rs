@@ -167,7 +167,10 @@ fn peer_table(timings: &[Timing], peers: &[PeerTiming]) -> String {
     let largest = peers.iter().map(|timing| timing.pixels).max().unwrap_or(0);
     let mut text = format!(
         "How many times as long a peer takes, on {} pixels, connectivity 4, limit {LIMIT}: area opening against \
-         `{CLEAN_LIGHT}`, the tree against `nodes`. In brackets: how many pixels of its opening are wrong.\n\n\
+         `{CLEAN_LIGHT}`, the tree against `nodes`. `{CLEAN_LIGHT}` also keeps what reaches the trim edge, for which it \
+         makes a pass more; the peers' area opening has no trim edge. In brackets: how many pixels of that opening are \
+         wrong, compared with the proved function's answer on the picture in a black frame, inside which no patch \
+         reaches the edge.\n\n\
          | picture | `{CLEAN_LIGHT}`, s | `nodes`, s | {ITK_OPENING} | {SCIKIT_OPENING} | {SCIKIT_TREE} |\n\
          |---|---|---|---|---|---|\n",
         size_name(largest)
@@ -204,8 +207,9 @@ fn times(timing: &PeerTiming, ours: f64) -> String {
         return "crashes".to_owned();
     };
     let wrong = match timing.differing {
-        0 => String::new(),
-        differing => format!(" ({differing})"),
+        Some(0) => String::new(),
+        Some(differing) => format!(" ({differing})"),
+        None => " (not compared)".to_owned(),
     };
     format!("{:.1}{wrong}", seconds / ours)
 }

@@ -51,7 +51,7 @@ pub struct Columns<'a, const CHECKED: bool> {
     /// The area by node in the order of flooding; then the number by such a node; then each node's value.
     pub flood_area: Column<'a, CHECKED>,
     pub parent: Column<'a, CHECKED>,
-    /// The first pixel by node in the order of flooding.
+    /// The first pixel by node in the order of flooding; then what is held against the limit by node, its attribute.
     pub first: Column<'a, CHECKED>,
     pub area: Column<'a, CHECKED>,
 }
@@ -431,11 +431,39 @@ pub fn write_values<const CHECKED: bool>(
     }
 }
 
-/// Gives each node its value in the cut at the limit: its level, or its parent's value where it is too small.
+/// Gives each node its attribute: all the pixels where it reaches the trim edge, else its area. The pixels of the edge mark
+/// their own nodes, and from the last node to the first each hands its mark to its parent.
+pub fn put_attributes<const CHECKED: bool>(
+    work: &mut [u32],
+    width: u32,
+    height: u32,
+    count: usize,
+) {
+    let (width, height) = (width as usize, height as usize);
+    let pixels = width * height;
+    let mut columns = Columns::<CHECKED>::of(work, pixels);
+    let (nodes, areas) = (&mut columns.first.0[..count], &columns.area.0[..count]);
+    nodes.copy_from_slice(areas);
+    for x in 0..width {
+        columns.first[columns.own[x] as usize] = pixels as u32;
+        columns.first[columns.own[pixels - width + x] as usize] = pixels as u32;
+    }
+    for y in 0..height {
+        columns.first[columns.own[y * width] as usize] = pixels as u32;
+        columns.first[columns.own[y * width + width - 1] as usize] = pixels as u32;
+    }
+    for v in (1..count).rev() {
+        if columns.first[v] as usize == pixels {
+            columns.first[columns.parent[v] as usize] = pixels as u32;
+        }
+    }
+}
+
+/// Gives each node its value in the cut at the limit: its level, or its parent's value where its attribute is below it.
 pub fn cut_values<const CHECKED: bool>(work: &mut [u32], pixels: usize, count: usize, limit: u32) {
     let mut columns = Columns::<CHECKED>::of(work, pixels);
     for v in 0..count {
-        columns.flood_area[v] = if limit <= columns.area[v] {
+        columns.flood_area[v] = if limit <= columns.first[v] {
             columns.flood_parent[v]
         } else {
             columns.flood_area[columns.parent[v] as usize]
@@ -452,6 +480,7 @@ pub fn clean<const CHECKED: bool>(
 ) {
     let (pixels, negated) = (image.greys.len(), side == Side::Dark);
     let count = plate_tree::<CHECKED>(image, negated, work);
+    put_attributes::<CHECKED>(work, image.width, image.height, count);
     cut_values::<CHECKED>(work, pixels, count, limit);
     write_values::<CHECKED>(work, pixels, negated, out);
     clear(work, pixels);

@@ -4,7 +4,7 @@
 
 use livukoe::lent::Image;
 
-use crate::twin::{build, clear, cut_values, plate_tree, write_values, Columns};
+use crate::twin::{build, clear, cut_values, plate_tree, put_attributes, write_values, Columns};
 
 /// What the first fields say.
 #[derive(Clone, Copy)]
@@ -168,31 +168,41 @@ pub fn read_record<const CHECKED: bool>(bytes: &[u8], out: &mut [u8], work: &mut
 
 pub fn cut_record<const CHECKED: bool>(bytes: &[u8], limit: u32, out: &mut [u8], work: &mut [u32]) {
     let (head, count) = read_tree::<CHECKED>(bytes, work);
+    put_attributes::<CHECKED>(work, head.width, head.height, count);
     cut_values::<CHECKED>(work, head.pixels(), count, limit);
     write_values::<CHECKED>(work, head.pixels(), false, out);
     clear(work, head.pixels());
 }
 
+/// Makes the size list; the grey that is held on the trim edge.
 pub fn size_list<const CHECKED: bool>(
     bytes: &[u8],
     counts: &mut [u32],
     losses: &mut [u64],
     work: &mut [u32],
-) {
+) -> u64 {
     let (head, count) = read_tree::<CHECKED>(bytes, work);
+    put_attributes::<CHECKED>(work, head.width, head.height, count);
     let places = head.pixels() - 1;
     let columns = Columns::<CHECKED>::of(work, head.pixels());
     counts[..places].fill(0);
     losses[..places].fill(0);
-    for i in 1..count {
-        counts[columns.area[i] as usize - 1] += 1;
+    let attribute = |i| columns.first[i] as usize;
+    for i in (1..count).filter(|&i| attribute(i) <= places) {
+        counts[attribute(i) - 1] += 1;
     }
+    let mut held = 0;
     for i in 1..count {
         let below = columns.flood_parent[columns.parent[i] as usize];
-        let loss = u64::from(columns.area[i]) * u64::from(columns.flood_parent[i] - below);
-        losses[columns.area[i] as usize - 1] += loss;
+        let grey = u64::from(columns.area[i]) * u64::from(columns.flood_parent[i] - below);
+        let total = match attribute(i) {
+            off_edge if off_edge <= places => &mut losses[off_edge - 1],
+            _ => &mut held,
+        };
+        *total += grey;
     }
     clear(work, head.pixels());
+    held
 }
 
 /// Reads a plate file whose header has no comments.

@@ -77,8 +77,15 @@ enum Cover {
 const SNOW_LINE: f32 = 1.63;
 const LAKE_LEVEL: f32 = 0.665;
 
-/// Where snow lies below the glacier, and where water stands above the lake, on the map whose width is 1.
-const SNOWFIELDS: [(f32, f32); 4] = [(0.33, 0.10), (0.55, 0.58), (0.87, 0.30), (0.74, 0.62)];
+/// Where snow lies below the glacier, and where water stands above the lake, on the map whose width is 1. The last
+/// snowfield lies on the lower border: the map shows a part of it.
+const SNOWFIELDS: [(f32, f32); 5] = [
+    (0.33, 0.10),
+    (0.55, 0.58),
+    (0.87, 0.30),
+    (0.74, 0.62),
+    (0.87, 0.70),
+];
 const TARNS: [(f32, f32); 2] = [(0.91, 0.10), (0.60, 0.44)];
 
 fn cover(x: f32, y: f32) -> Cover {

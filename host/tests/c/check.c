@@ -37,18 +37,22 @@ static int all(const void *bytes, int value, size_t length)
     return 1;
 }
 
+/* What is left of the small plate on the light side at the limit 2: pixel 11 is on the trim edge, and stays. */
+static const uint8_t CLEAN[PIXELS] = {10, 10, 10, 10, 10, 30, 30, 10, 10, 10, 10, 90};
+
 static void check_cleaning(void)
 {
-    const uint8_t light[PIXELS] = {10, 10, 10, 10, 10, 30, 30, 10, 10, 10, 10, 10};
-    const uint8_t dark[PIXELS] = {30, 30, 30, 30, 30, 50, 30, 30, 30, 30, 30, 90};
+    const uint8_t hole[9] = {90, 80, 90, 90, 10, 90, 90, 90, 90}, filled_hole[9] = {90, 80, 90, 90, 80, 90, 90, 90, 90};
     uint8_t *out = filled(PIXELS + 1);
     uint32_t *work = filled((WORK + 1) * sizeof *work);
     EXPECT(
         livukoe_clean(LIVUKOE_SIDE_LIGHT, SMALL, PIXELS, WIDTH, HEIGHT, 4, 2, out, PIXELS + 1, work, WORK + 1) == 0);
-    EXPECT(memcmp(out, light, PIXELS) == 0 && out[PIXELS] == 77);
+    EXPECT(memcmp(out, CLEAN, PIXELS) == 0 && out[PIXELS] == 77);
     EXPECT(all(work, 0, WORK * sizeof *work) && all(work + WORK, 77, sizeof *work));
     EXPECT(livukoe_clean(LIVUKOE_SIDE_DARK, SMALL, PIXELS, WIDTH, HEIGHT, 4, 10, out, PIXELS, work, WORK) == 0);
-    EXPECT(memcmp(out, dark, PIXELS) == 0);
+    EXPECT(memcmp(out, SMALL, PIXELS) == 0); /* every dark patch reaches the trim edge */
+    EXPECT(livukoe_clean(LIVUKOE_SIDE_DARK, hole, 9, 3, 3, 4, 2, out, 9, work, LIVUKOE_WORK_NUMBERS(9)) == 0);
+    EXPECT(memcmp(out, filled_hole, 9) == 0);
     free(out);
     free(work);
 }
@@ -78,23 +82,27 @@ static void check_refusals_of_cleaning(void)
     free(work);
 }
 
-/* Two light pixels touch on the falling diagonal, with 6 and 8; two others on the rising one, with 8 alone. */
+/* Two light pixels touch on the falling diagonal, with 6 and 8; two others on the rising one, with 8 alone. None is on
+ * the trim edge. */
 static void check_connectivities(void)
 {
-    static const uint8_t image[PIXELS] = {10, 10, 10, 90, 50, 10, 90, 10, 10, 50, 10, 10};
+    enum { ROW = 6, ROWS = 5, ALL = ROW * ROWS };
     static const uint32_t known[3] = {4, 6, 8};
-    static const uint8_t wanted[3][PIXELS] = {
-        {10, 10, 10, 10, 10, 10, 10, 10, 10, 10, 10, 10},
-        {10, 10, 10, 10, 50, 10, 10, 10, 10, 50, 10, 10},
-        {10, 10, 10, 90, 50, 10, 90, 10, 10, 50, 10, 10},
-    };
-    uint8_t *out = filled(PIXELS);
-    uint32_t *work = filled(WORK * sizeof *work);
+    static const uint8_t left[3][2] = {{10, 10}, {50, 10}, {50, 90}}; /* of the first two and of the others */
+    uint8_t *image = memset(filled(ALL), 10, ALL), *out = filled(ALL);
+    uint32_t *work = filled(LIVUKOE_WORK_NUMBERS(ALL) * sizeof *work);
+    image[13] = image[20] = 50;
+    image[10] = image[15] = 90;
     for (int c = 0; c < 3; c++) {
         EXPECT(
-            livukoe_clean(LIVUKOE_SIDE_LIGHT, image, PIXELS, WIDTH, HEIGHT, known[c], 2, out, PIXELS, work, WORK) == 0);
-        EXPECT(memcmp(out, wanted[c], PIXELS) == 0);
+            livukoe_clean(
+                LIVUKOE_SIDE_LIGHT, image, ALL, ROW, ROWS, known[c], 2, out, ALL, work, LIVUKOE_WORK_NUMBERS(ALL))
+            == 0);
+        EXPECT(out[13] == left[c][0] && out[20] == left[c][0] && out[10] == left[c][1] && out[15] == left[c][1]);
+        out[13] = out[20] = out[10] = out[15] = 10;
+        EXPECT(all(out, 10, ALL));
     }
+    free(image);
     free(out);
     free(work);
 }
@@ -152,7 +160,6 @@ static void check_record(void)
 {
     const uint8_t record[27] = {4, 3, 4, 4, 10, 12, 1, 20, 2, 1, 20, 1, 3, 80,
                                 1, 0, 0, 0, 0,  0,  2, 1,  0, 0, 0,  0, 3};
-    const uint8_t cut[PIXELS] = {10, 10, 10, 10, 10, 30, 30, 10, 10, 10, 10, 10};
     uint8_t *bytes = filled(27), *out = filled(PIXELS);
     uint32_t *work = filled(WORK * sizeof *work), *counts = filled(11 * sizeof *counts);
     uint64_t *losses = filled(11 * sizeof *losses);
@@ -165,13 +172,15 @@ static void check_record(void)
     EXPECT(head.refusal == 0 && head.width == WIDTH && head.height == HEIGHT && head.connectivity == 4);
     EXPECT(memcmp(out, SMALL, PIXELS) == 0);
     head = livukoe_cut_record(bytes, 27, 2, out, PIXELS, work, WORK);
-    EXPECT(head.refusal == 0 && memcmp(out, cut, PIXELS) == 0);
+    EXPECT(head.refusal == 0 && memcmp(out, CLEAN, PIXELS) == 0);
     head = livukoe_cut_record(bytes, 26, 2, out, PIXELS, work, WORK);
     EXPECT(head.refusal == LIVUKOE_FIELD_UNENDED && head.width == 0);
     struct livukoe_size_head sizes = livukoe_size_list(bytes, 27, counts, 11, losses, 11, work, WORK);
     EXPECT(sizes.refusal == 0 && sizes.nodes == 4 && sizes.darkest == 10 && sizes.connectivity == 4);
-    EXPECT(counts[0] == 2 && losses[0] == 100 && counts[1] == 1 && losses[1] == 40);
+    EXPECT(counts[0] == 1 && losses[0] == 20 && counts[1] == 1 && losses[1] == 40 && sizes.held == 80);
     EXPECT(all(counts + 2, 0, 9 * sizeof *counts) && all(losses + 2, 0, 9 * sizeof *losses));
+    sizes = livukoe_size_list(bytes, 27, counts, 11, losses, 10, work, WORK);
+    EXPECT(sizes.refusal == LIVUKOE_OUTPUT_SHORT && sizes.nodes == 0 && sizes.darkest == 0 && sizes.held == 0);
     free(bytes);
     free(out);
     free(work);
@@ -196,13 +205,14 @@ static void check_joint(void)
     EXPECT(joint.refusal == LIVUKOE_WORK_SHORT && all(work, 77, WORK * sizeof *work));
     joint = livukoe_write_cut_list(
         SMALL, PIXELS, WIDTH, HEIGHT, 4, 2, bytes, 26, out, PIXELS, counts, 11, losses, 11, work, WORK);
-    EXPECT(joint.refusal == LIVUKOE_OUTPUT_SHORT && joint.length == 0 && all(bytes, 77, 27) && all(out, 77, PIXELS));
+    EXPECT(joint.refusal == LIVUKOE_OUTPUT_SHORT && joint.length == 0 && joint.held == 0);
+    EXPECT(all(bytes, 77, 27) && all(out, 77, PIXELS));
     EXPECT(all(counts, 77, 11 * sizeof *counts) && all(losses, 77, 11 * sizeof *losses));
     EXPECT(all(work, 0, WORK * sizeof *work));
     joint = livukoe_write_cut_list(
         SMALL, PIXELS, WIDTH, HEIGHT, 4, 2, bytes, 27, out, PIXELS, counts, 11, losses, 11, work, WORK);
-    EXPECT(joint.refusal == 0 && joint.length == 27 && joint.nodes == 4 && joint.darkest == 10);
-    EXPECT(out[5] == 30 && out[11] == 10 && counts[0] == 2 && losses[0] == 100 && all(work, 0, WORK * sizeof *work));
+    EXPECT(joint.refusal == 0 && joint.length == 27 && joint.nodes == 4 && joint.darkest == 10 && joint.held == 80);
+    EXPECT(memcmp(out, CLEAN, PIXELS) == 0 && counts[0] == 1 && losses[0] == 20 && all(work, 0, WORK * sizeof *work));
     free(bytes);
     free(out);
     free(work);

@@ -71,7 +71,7 @@ const FORMS: [Form; 7] = [
         connectivity: true,
         output: true,
         line: "clean --side light|dark --limit N [--connectivity 4|6|8] IN.pgm OUT.pgm",
-        about: "take away light (dark) patches of fewer than N pixels: area opening (closing)",
+        about: "take away light (dark) patches of fewer than N pixels, but none that reaches the border",
     },
     Form {
         name: "maxima",
@@ -121,7 +121,7 @@ const FORMS: [Form; 7] = [
         connectivity: false,
         output: true,
         line: "cut    --limit N IN.rec OUT.pgm",
-        about: "the plate of a record without light patches of fewer than N pixels, under its connectivity",
+        about: "the plate of a record, cleaned on the light side under its connectivity",
     },
     Form {
         name: "sizelist",
@@ -131,7 +131,7 @@ const FORMS: [Form; 7] = [
         connectivity: true,
         output: false,
         line: "sizelist [--connectivity 4|6|8] IN.pgm",
-        about: "how many nodes have each area, and the grey that goes with them",
+        about: "how many nodes off the border have each area, the grey that goes with them, and the grey held",
     },
 ];
 
@@ -151,6 +151,10 @@ pub fn help() -> String {
 A file named - is standard input or output.
 The connectivity says which pixels touch a pixel: 4 (left, right, above, below), 6 (those, the upper left and the lower
 right) or 8 (those four and all corners). It is 4 unless it is given.
+A patch that reaches the border of the sheet, its first or last row or column, stays whatever the limit, since the next
+sheet shows the remainder. For the area opening (closing) of the literature, which has no such rule, put a frame one
+pixel wide around the picture, black (0) for the light side, white (255) for the dark side, and cut it off afterwards:
+only the frame then lies on the border, and no patch inside reaches it.
 An OUT that is write-protected is left as it is, except with --force, which replaces it.
 IN.pgm is a binary PGM (P5) with the greatest grey 255, of up to 32768 x 32768 and 16777216 pixels.
 
