@@ -142,12 +142,6 @@ pub corner-reaches : cleaned lightSide 4 4 4 2 byCorner ∷ cleaned lightSide 6 
 unfolding cleaned
 corner-reaches = refl
 
--- nodes on the edge are not counted, and lose nothing
-pub borders-listed : take 3 (counts 4 5 5 borders) ∷ take 3 (losses 4 5 5 borders) ∷ (held 4 5 5 borders ∷ []) ∷ []
-    ≡ (1 ∷ 0 ∷ 0 ∷ []) ∷ (9 ∷ 0 ∷ 0 ∷ []) ∷ (36 ∷ []) ∷ []
-unfolding counts losses held
-borders-listed = refl
-
 -- ---- ink and refusals
 
 -- 4/10, 5/10 and 6/10; 1/2 and 3/2, and 7/3: halves go up

@@ -316,12 +316,15 @@ module _ {k w h : ℕ} {f : List ℕ} (plate : Plate k w h f) where
         ap (λ (d : ℕ). n * d) (darkest-root plate),
       )
 
-  pub held-is-sum : HeldIsSum k w h f
+  held-cut : held k w h f ≡ total (cut k w h (w * h) f) - darkest f * (w * h)
   unfolding held
+  held-cut = refl
+
+  pub held-is-sum : HeldIsSum k w h f
   held-is-sum =
-      let e : held k w h f ≡ total (cut k w h n f) - darkest f * n = rw (plate .long) in
-      let c : darkest f * n ≡ n * darkest f = mul-comm (darkest f) n in
-      omega (arith, e, c, full-cut)
+      let e : total (cut k w h n f) ≡ total (cut k w h (w * h) f) = ap (λ (m : ℕ). total (cut k w h m f)) (plate .long) in
+      let c : n * darkest f ≡ darkest f * (w * h) = mul-comm n (darkest f) ∙ ap (λ (m : ℕ). darkest f * m) (plate .long) in
+      omega (arith, held-cut, e, c, full-cut)
 
   pub held-makes-cut : HeldMakesCut k w h f
   held-makes-cut = omega (arith, held-is-sum, full-cut)
