@@ -134,8 +134,8 @@ module _ {g : Shape} {f w : List ℕ} {count : ℕ} (t : Tree g f w count) where
 -- ---- what is held against the limit
 
 module _ {g : Shape} {f w : List ℕ} {count : ℕ} (a : Attributed g f w count) where
-  held : Attribute (g .pixels) (attribute (g .width) (g .height))
-  held = rw (a .tree .pixels) at (plate-attribute (a .tree .plate))
+  is-attribute : Attribute (g .pixels) (attribute (g .width) (g .height))
+  is-attribute = rw (a .tree .pixels) at (plate-attribute (a .tree .plate))
 
   pub attributed-here : AttributedStands g w count
   attributed-here = rw (tree-plate (a .tree)) a
@@ -148,15 +148,15 @@ module _ {g : Shape} {f w : List ℕ} {count : ℕ} (a : Attributed g f w count)
       omega (
         arith,
         a .attribute-is i l,
-        held .positive (holds (g .pixels) (touchIn g) (grey f) (xs t) i) (nth (xs t) i) inside (anchor-holds (tree-grid t) (tree-nodes t) i b),
+        is-attribute .positive (holds (g .pixels) (touchIn g) (grey f) (xs t) i) (nth (xs t) i) inside (anchor-holds (tree-grid t) (tree-nodes t) i b),
       )
 
   pub attribute-root : g .pixels ≤ col ATTRIBUTE (g .pixels) w 0
   attribute-root =
       let t = a .tree in
-      let all = held .increasing (λ q. true) (holds (g .pixels) (touchIn g) (grey f) (xs t) 0)
+      let all = is-attribute .increasing (λ q. true) (holds (g .pixels) (touchIn g) (grey f) (xs t) 0)
       (λ q l u. over-holds (tree-grid t) (tree-nodes t) 0 q (root-over (tree-grid t) (tree-nodes t) q l)) in
-      omega (arith, a .attribute-is 0 (some-nodes t), held .all, all)
+      omega (arith, a .attribute-is 0 (some-nodes t), is-attribute .all, all)
 
   -- it stands as long as the columns but VALUE do
   pub attributed-kept : {w′ : List ℕ} → Only VALUE (g .pixels) w w′ → Attributed g f w′ count
