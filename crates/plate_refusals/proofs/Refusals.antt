@@ -7,7 +7,7 @@ use Prim.Native.Nat.{ℕ, _-_, _*_, _≤_, _<_}
 use native.Mathlib.Omega.{arith}
 use lib.Dec.{T, leb, ltb, eqb, leb→le, eqb→eq}
 use lib.ListN.{length}
-use borrow.Author.Tests.{eqb-true, eq-eqb, not-false, ltb-false, le-ltb}
+use borrow.Author.Tests.{eqb-true, eq-eqb, not-false, ltb-false, le-leb, le-ltb}
 use Rattle.meaning.specs.Answers.{cleanRefusal, filterRefusal, limitRefusal, maximaRefusal, outRefusal, plateRefusal, refuse, tablesRefusal}
 use Rattle.meaning.specs.Answers.{treeRefusal, workRefusal}
 use Rattle.meaning.specs.Opening.{darkSide, lightSide, sideFits}
@@ -144,6 +144,19 @@ filter-none k w h limit f out work e =
     let (room, e₃) = out-none (w * h) out _ e₂ in
     record { taken = taken; limit-low = limited .0; limit-high = limited .1; room = room; space = work-none (w * h) work 0 e₃ .0 }
 
+pub filterable-none : {k w h limit : ℕ} {f : List ℕ} {out work : ℕ} → Filterable k w h limit f out work → filterRefusal k w h limit f out work ≡ 0
+unfolding filterRefusal
+filterable-none {k} {w} {h} {limit} {f} {out} {work} s =
+    rw (
+      s .taken .kind,
+      s .taken .grid,
+      eq-eqb (length f) (w * h) (s .taken .long),
+      le-leb 1 limit (s .limit-low),
+      le-leb limit (w * h) (s .limit-high),
+      le-ltb out (w * h) (s .room),
+      le-ltb work (8 * (w * h)) (s .space),
+    )
+
 -- p, q, s: what was found to be the refusals of the plate, of the limit and output, of the work space
 module _ (k w h limit : ℕ) (f : List ℕ) (out work : ℕ) {p : ℕ} (e : p ≡ plateRefusal k w h f 0) where
   abbrev filterFurther : ℕ → ℕ
@@ -184,6 +197,16 @@ unfolding cleanRefusal
 clean-none side k w h limit f out work e =
     let a = refuse-none (not (sideFits side)) 26 (filterRefusal k w h limit f out work) (omega arith) e in
     record { side-is = side-known side (not-false (sideFits side) (a .0)); sizes = filter-none k w h limit f out work (a .1) }
+
+side-fits : {side : ℕ} → (side ≡ lightSide) ⊎ (side ≡ darkSide) → sideFits side ≡ true
+unfolding sideFits
+side-fits (inl e) = rw e
+side-fits (inr e) = rw e
+
+pub cleanable-none : {side k w h limit : ℕ} {f : List ℕ} {out work : ℕ} → Cleanable side k w h limit f out work
+    → cleanRefusal side k w h limit f out work ≡ 0
+unfolding cleanRefusal
+cleanable-none c = rw (side-fits (c .side-is)) (filterable-none (c .sizes))
 
 -- ---- marking maxima
 

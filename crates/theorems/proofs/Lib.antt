@@ -1,3 +1,4 @@
 -- The theorems about plates.
 pub mod Plates
+pub mod Negatives
 pub mod Theorems

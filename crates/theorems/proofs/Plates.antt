@@ -1,18 +1,19 @@
 -- From lists of greys to the theory: a plate is a grid, its anchors number its nodes, and its opening, cut and size list at a pixel or an area.
 use mathlib.Core.Path.{_≡_, ap, _∙_}
+use mathlib.Core.Bool.{Bool, true, false}
 use mathlib.Core.List.{List}
 use Prim.Native.Nat.{ℕ, suc, _-_, _≤_, _<_}
 use native.Mathlib.Nat.{le-antisymm}
 use native.Mathlib.Omega.{arith}
-use lib.Dec.{T}
+use lib.Dec.{T, eqb}
 use lib.ListN.{length, length-map}
 use lib.Seq.{ext-getD}
 use Rattle.meaning.specs.Cut.{cut, cutAt, darkest, total}
 use Rattle.meaning.specs.Nodes.{nodesOf}
-use Rattle.meaning.specs.Opening.{Attribute, Criterion, atLeast, attribute, closed, opened, openedAt}
+use Rattle.meaning.specs.Opening.{Attribute, Criterion, atLeast, attribute, cleaned, closed, darkSide, opened, openedAt}
 use Rattle.meaning.specs.Paths.{Grid}
 use Rattle.meaning.specs.Plate.{Plate, greatestGrey, grey, negative, touch}
-use Rattle.meaning.specs.Sets.{elem, lowest, nth, place, sum, table}
+use Rattle.meaning.specs.Sets.{elem, lowest, nth, pick, place, sum, table}
 use Rattle.theory_lists.specs.Members.{Lowest}
 use Rattle.theory_connectivity.proofs.Sizes.{Sizes, grid-sizes}
 use Rattle.theory_lists.proofs.Lists.{getD-map, table-same, elem-nth, getD-table, length-table, place-is}
@@ -142,7 +143,7 @@ module _ {k w h : ℕ} {f : List ℕ} (plate : Plate k w h f) where
       ap (λ (n : ℕ). sum n (grey (table (length f) g))) (length-table (length f) g)
       ∙ sum-cong (length f) (grey (table (length f) g)) g (grey-table (length f) g)
 
--- ---- the negative twice, and the closing
+-- ---- the negative twice, the closing, and cleaning on a side
 
 module _ {k w h : ℕ} {f : List ℕ} (plate : Plate k w h f) where
   pub negative-twice : negative (negative f) ≡ f
@@ -171,3 +172,13 @@ module _ {k w h : ℕ} {f : List ℕ} (plate : Plate k w h f) where
   pub closed-negative : (limit : ℕ) → closed k w h limit (negative f) ≡ negative (opened k w h limit f)
   unfolding closed
   closed-negative limit = rw negative-twice
+
+  -- a plate cleaned is a plate
+  side-plate : (negated : Bool) (limit : ℕ) → limit ≤ length f → Plate k w h (pick negated (closed k w h limit f) (opened k w h limit f))
+  unfolding closed
+  side-plate true limit m = negative-plate (opened-plate (negative-plate plate) limit (omega (arith, negative-length f)))
+  side-plate false limit m = opened-plate plate limit m
+
+  pub cleaned-plate : (side limit : ℕ) → limit ≤ length f → Plate k w h (cleaned side k w h limit f)
+  unfolding cleaned
+  cleaned-plate side = side-plate (eqb side darkSide)

@@ -2,7 +2,7 @@
 -- greys and any increasing criterion or attribute (crates theory_connectivity, theory_opening and theory_tree).
 use mathlib.Core.Path.{_≡_, refl, sym, ap, _∙_}
 use mathlib.Core.Logic.{_⊎_}
-use mathlib.Core.Bool.{Bool, not, _&&_}
+use mathlib.Core.Bool.{Bool, true, false, not, _&&_}
 use mathlib.Core.List.{List}
 use Prim.Native.Nat.{ℕ, suc, _+_, _-_, _*_, _≤_, _<_, max}
 use native.Mathlib.Nat.{le-refl, mul-comm}
@@ -12,8 +12,8 @@ use lib.ListN.{length}
 use Rattle.meaning.specs.Cut.{countAt, cut, darkest, held, total}
 use Rattle.meaning.specs.Maxima.{LargeMaxima, MaximaKept, Maximum, flatZone, marks, maximum}
 use Rattle.meaning.specs.Nodes.{areaOf, holds, nodesOf, own, rise}
-use Rattle.meaning.specs.Opening.{Reaches, atLeast, attribute, closed, opened, openedAt, reaches}
-use Rattle.meaning.specs.Plate.{Plate, greatestGrey, grey, negative, onTrimEdge, touch}
+use Rattle.meaning.specs.Opening.{Reaches, atLeast, attribute, cleaned, closed, darkSide, opened, openedAt, reaches}
+use Rattle.meaning.specs.Plate.{NowhereLighter, Plate, greatestGrey, grey, negative, onTrimEdge, touch}
 use Rattle.meaning.specs.Sets.{area, bit, has, nth, pick, sum, table}
 use Rattle.theory_connectivity.proofs.Component.{component-complete, component-sound}
 use Rattle.theory_connectivity.proofs.Touch.{touch-sym, touch-whole}
@@ -47,6 +47,8 @@ use Rattle.theory_tree.proofs.Rises.{opened-sum}
 use Rattle.theorems.specs.Theorems.{
   AnchorInNode,
   AnchorIsLowest,
+  CleanedGrows,
+  CleanedTwiceIsOnce,
   ClosedIsLeast,
   ComponentPaths,
   CountedOffEdge,
@@ -85,6 +87,7 @@ use Rattle.theorems.specs.Theorems.{
   RootIsDarkest,
   RootIsWhole,
 }
+use Rattle.theorems.proofs.Negatives.{negated-grows, negated-twice}
 use Rattle.theorems.proofs.Plates.{
   at-limit,
   closed-grey,
@@ -364,3 +367,39 @@ module _ {k w h : ℕ} {f : List ℕ} (plate : Plate k w h f) where
     λ e m. absurd (omega (arith, mark-is-one p l .1 m)),
     λ other. mark-is p l ∙ bit-no (maximum n near (grey f) p) (λ t. other (maximum-sound n near (grey f) p t)),
   )
+
+-- ---- 9. cleaning, on either side: opening on the light one, opening through the negative on the dark one
+
+module _ {k w h : ℕ} {f : List ℕ} (plate : Plate k w h f) where
+  -- a limit that fits this plate fits every plate of its sizes
+  fits : {g : List ℕ} (limit : ℕ) → limit ≤ length f → Plate k w h g → limit ≤ length g
+  fits limit m p = omega (arith, plate .long, p .long)
+
+  cleaned-twice : (negated : Bool) (a b : ℕ) → a ≤ length f → b ≤ length f
+      → let once = pick negated (closed k w h a f) (opened k w h a f) in
+      pick negated (closed k w h b once) (opened k w h b once) ≡ pick negated (closed k w h (max a b) f) (opened k w h (max a b) f)
+  unfolding closed
+  cleaned-twice true a b ha hb =
+      negated-twice k w h (opened k w h a) (opened k w h b) (opened k w h (max a b))
+      (λ g p. opened-plate p a (fits a ha p))
+      (λ g p. opened-twice-is-once p a b (fits a ha p) (fits b hb p))
+      f plate
+  cleaned-twice false a b ha hb = opened-twice-is-once plate a b ha hb
+
+  pub cleaned-twice-is-once : CleanedTwiceIsOnce k w h f
+  unfolding cleaned
+  cleaned-twice-is-once side = cleaned-twice (eqb side darkSide)
+
+  cleaned-order : (negated : Bool) (limit : ℕ) → limit ≤ length f → (g : List ℕ) → Plate k w h g → NowhereLighter g f
+      → NowhereLighter (pick negated (closed k w h limit g) (opened k w h limit g)) (pick negated (closed k w h limit f) (opened k w h limit f))
+  unfolding closed
+  cleaned-order true limit m g other b =
+      negated-grows k w h (opened k w h limit)
+      (λ g p. opened-plate p limit (fits limit m p))
+      (λ f g pf pg b. opened-grows pf limit (fits limit m pf) g pg b)
+      f g plate other b
+  cleaned-order false limit m g other b = opened-grows plate limit m g other b
+
+  pub cleaned-grows : CleanedGrows k w h f
+  unfolding cleaned
+  cleaned-grows side = cleaned-order (eqb side darkSide)

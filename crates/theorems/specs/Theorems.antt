@@ -11,7 +11,7 @@ use Rattle.meaning.specs.Component.{component}
 use Rattle.meaning.specs.Cut.{countAt, cut, darkest, held, lostAt, total}
 use Rattle.meaning.specs.Maxima.{LargeMaxima, Maximum, marks, maximum}
 use Rattle.meaning.specs.Nodes.{NodeSet, Same, areaOf, holds, levelOf, nodesOf, own, parent, rise}
-use Rattle.meaning.specs.Opening.{Region, attribute, closed, opened, reaches}
+use Rattle.meaning.specs.Opening.{Region, attribute, cleaned, closed, opened, reaches}
 use Rattle.meaning.specs.Paths.{Joined}
 use Rattle.meaning.specs.Plate.{NowhereLighter, Plate, greatestGrey, grey, negative, onTrimEdge, touch}
 use Rattle.meaning.specs.Sets.{Within, area, has, nth, pick, sum}
@@ -220,3 +220,15 @@ module _ (k w h : ℕ) (f : List ℕ) where
 
   abbrev pub MarkIsZero : Type 0
   MarkIsZero = (p : ℕ) → p < n → nth (marks k w f) p ≡ 0 ↔ (Maximum n near (grey f) p → ⊥)
+
+  -- ---- 9. cleaning, on either side
+
+  -- cleaning at a and then at b is cleaning at the greater
+  abbrev pub CleanedTwiceIsOnce : Type 0
+  CleanedTwiceIsOnce = (side a b : ℕ) → a ≤ n → b ≤ n → cleaned side k w h b (cleaned side k w h a f) ≡ cleaned side k w h (max a b) f
+
+  -- cleaning is increasing in the plate
+  abbrev pub CleanedGrows : Type 0
+  CleanedGrows =
+      (side limit : ℕ) → limit ≤ n → (g : List ℕ) → Plate k w h g → NowhereLighter g f
+      → NowhereLighter (cleaned side k w h limit g) (cleaned side k w h limit f)
