@@ -8,7 +8,7 @@ use lib.ListN.{length, take}
 use Rattle.meaning.specs.Answers.{cleanRefusal, filterRefusal}
 use Rattle.meaning.specs.Opening.{cleaned, closed, darkSide, lightSide, opened, sideFits}
 use Rattle.meaning.specs.Plate.{negative}
-use Rattle.theorems.proofs.Plates.{closed-length, closed-negative, negative-length, negative-twice, opened-length, opened-plate}
+use Rattle.theorems.proofs.Plates.{cleaned-plate, closed-length, closed-negative, negative-length, negative-twice, opened-length, opened-plate}
 use Rattle.theorems.proofs.Theorems.{closed-is-least, opened-is-greatest}
 use Rattle.plate_refusals.proofs.Refusals.{Cleanable, clean-none}
 use Rattle.plate_filter.specs.Operations.{Cleaned}
@@ -22,8 +22,13 @@ module _ (side limit : ℕ) {k w h : ℕ} {f out out′ work work′ : List ℕ}
   cleanable = clean-none side k w h limit f (length out) (length work) (sym (a .number) ∙ z)
 
   -- a limit that is not refused is at most the pixels
-  limit-fits : limit ≤ length f
+  pub limit-fits : limit ≤ length f
   limit-fits = let s = cleanable .sizes in omega (arith, s .limit-high, s .taken .long)
+
+  -- the plate cleaned stands in front of the excess
+  pub left-cleaned : take (w * h) out′ ≡ cleaned side k w h limit f
+  left-cleaned =
+      rw (a .output, z) (over-take (cleaned side k w h limit f) out (w * h) (cleaned-plate (a .accepted z) side limit limit-fits .long))
 
 -- the answers of the two sides
 light-opens : (k w h limit : ℕ) (f : List ℕ) → cleaned lightSide k w h limit f ≡ opened k w h limit f
@@ -62,15 +67,10 @@ module _ (limit : ℕ) {k w h : ℕ} {f out out′ work work′ lent lent′ spa
 
   module _ (z : r ≡ 0) (z′ : r′ ≡ 0) where
     light-plate : take (w * h) out′ ≡ opened k w h limit f
-    light-plate =
-        let plate = a .accepted z in
-        rw (a .output, z, light-opens k w h limit f) (over-take (opened k w h limit f) out (w * h) (opened-length plate limit ∙ plate .long))
+    light-plate = left-cleaned lightSide limit a z ∙ light-opens k w h limit f
 
     dark-plate : take (w * h) lent′ ≡ closed k w h limit (negative f)
-    dark-plate =
-        let plate = b .accepted z′ in
-        rw (b .output, z′, dark-closes k w h limit (negative f))
-        (over-take (closed k w h limit (negative f)) lent (w * h) (closed-length plate limit ∙ plate .long))
+    dark-plate = left-cleaned darkSide limit b z′ ∙ dark-closes k w h limit (negative f)
 
     each-other : Negatives (take (w * h) out′) (take (w * h) lent′)
     each-other =
