@@ -149,11 +149,7 @@ fn negatives() {
             out
         };
         let light = cleaned(reference::LIGHT, &plate);
-        let negated = Plate {
-            greys: negative(&plate.greys),
-            ..plate.clone()
-        };
-        let dark = cleaned(reference::DARK, &negated);
+        let dark = cleaned(reference::DARK, &plate.with(negative(&plate.greys)));
         assert_eq!(negative(&dark), light, "case {case}: {plate:?}, {limit}");
     }
 }

@@ -161,6 +161,11 @@ impl Plate {
         self.greys.len()
     }
 
+    /// A plate of the same numbers with other greys.
+    pub fn with(&self, greys: Vec<u8>) -> Plate {
+        Plate { greys, ..*self }
+    }
+
     /// The plate file of this plate.
     pub fn file(&self) -> Vec<u8> {
         let mut file = format!("P5\n{} {}\n255\n", self.width, self.height).into_bytes();

@@ -335,3 +335,43 @@ fn light_on_a_plate_and_dark_on_its_negative_are_negatives() {
         assert_eq!(dark, negative(&light));
     }
 }
+
+/// A random plate, with two random limits from 1 to its pixels.
+fn plate_and_limits(random: &mut Lcg, most: u32) -> (Vec<u8>, u32, u32, [u32; 2]) {
+    let (plate, width, height) = random.plate(most);
+    let bound = 1 + random.below(width * height);
+    let limits = [1 + random.below(bound), 1 + random.below(bound)];
+    (plate, width, height, limits)
+}
+
+#[test]
+fn two_cleanings_are_one_at_the_greater_limit() {
+    let mut random = Lcg(41);
+    for round in 0..600 {
+        let (plate, width, height, [a, b]) = plate_and_limits(&mut random, 8);
+        let connectivity = in_turn(round);
+        for side in [LIGHT, DARK] {
+            let clean =
+                |plate: &[u8], limit| cleaned(side, plate, width, height, connectivity, limit);
+            let once = clean(&plate, a.max(b));
+            assert_eq!(clean(&clean(&plate, a), b), once);
+            assert_eq!(clean(&once, a.max(b)), once);
+        }
+    }
+}
+
+#[test]
+fn cleaning_keeps_nowhere_darker() {
+    let mut random = Lcg(42);
+    for round in 0..600 {
+        let (darker, width, height, [limit, raise]) = plate_and_limits(&mut random, 8);
+        let connectivity = in_turn(round);
+        let greys = darker.iter();
+        let raised = greys.map(|grey| grey.saturating_add(random.below(1 + raise) as u8));
+        let lighter: Vec<u8> = raised.collect();
+        for side in [LIGHT, DARK] {
+            let clean = |plate: &[u8]| cleaned(side, plate, width, height, connectivity, limit);
+            assert!(nowhere_lighter(&clean(&darker), &clean(&lighter)));
+        }
+    }
+}
