@@ -119,6 +119,9 @@ static inline const char *livukoe_refusal_text(uint32_t refusal)
  * shows the remainder. On the dark side each pixel gets 255 minus the same of 255 minus each grey, which does to dark
  * patches what the light side does to light ones.
  *
+ * A plate cleaned at one limit and then on the same side at another is the plate cleaned once at the greater of the two.
+ * Where one plate is nowhere darker than another, so it is after both are cleaned alike.
+ *
  * The area opening of the literature has no trim edge. For it put a frame one pixel wide around the plate, of 0 for the
  * light side and of 255 for the dark side, and take it off afterwards: only the frame is then on the trim edge, and no
  * patch inside reaches it.

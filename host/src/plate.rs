@@ -98,6 +98,9 @@ impl Plate {
     /// the first or last row or column (the trim edge) stays whatever the limit, since the next sheet shows the
     /// remainder.
     ///
+    /// A plate cleaned at one limit and then on the same side at another is the plate cleaned once at the greater of the
+    /// two.
+    ///
     /// The area opening of the literature has no trim edge. For it clean the plate in a frame, [`Plate::framed`], of 0
     /// for the light side and of 255 for the dark side: only the frame is then on the trim edge, and no patch inside
     /// reaches it.
@@ -109,6 +112,9 @@ impl Plate {
     /// let plate = Plate::new(3, 3, vec![9, 0, 0, 0, 9, 0, 0, 0, 0]);
     /// let clean = plate.clean(Side::Light, Connectivity::Four, 2)?;
     /// assert_eq!(clean.greys(), [9, 0, 0, 0, 0, 0, 0, 0, 0]);
+    ///
+    /// let again = clean.clean(Side::Light, Connectivity::Four, 1)?;
+    /// assert_eq!(again, clean);
     ///
     /// let clean = plate.framed(0).clean(Side::Light, Connectivity::Four, 2)?;
     /// assert_eq!(clean.unframed().greys(), [0; 9]);
