@@ -1,4 +1,4 @@
 -- The theorems about plates.
 pub mod Plates
-pub mod Negatives
+pub mod Dual
 pub mod Theorems

@@ -87,7 +87,7 @@ use Rattle.theorems.specs.Theorems.{
   RootIsDarkest,
   RootIsWhole,
 }
-use Rattle.theorems.proofs.Negatives.{negated-grows, negated-twice}
+use Rattle.theorems.proofs.Dual.{dual-grows, dual-twice}
 use Rattle.theorems.proofs.Plates.{
   at-limit,
   closed-grey,
@@ -368,7 +368,7 @@ module _ {k w h : ℕ} {f : List ℕ} (plate : Plate k w h f) where
     λ other. mark-is p l ∙ bit-no (maximum n near (grey f) p) (λ t. other (maximum-sound n near (grey f) p t)),
   )
 
--- ---- 9. cleaning, on either side: opening on the light one, opening through the negative on the dark one
+-- ---- 9. cleaning, on either side: opening on the light one, its dual on the dark one
 
 module _ {k w h : ℕ} {f : List ℕ} (plate : Plate k w h f) where
   -- a limit that fits this plate fits every plate of its sizes
@@ -380,7 +380,7 @@ module _ {k w h : ℕ} {f : List ℕ} (plate : Plate k w h f) where
       pick negated (closed k w h b once) (opened k w h b once) ≡ pick negated (closed k w h (max a b) f) (opened k w h (max a b) f)
   unfolding closed
   cleaned-twice true a b ha hb =
-      negated-twice k w h (opened k w h a) (opened k w h b) (opened k w h (max a b))
+      dual-twice k w h (opened k w h a) (opened k w h b) (opened k w h (max a b))
       (λ g p. opened-plate p a (fits a ha p))
       (λ g p. opened-twice-is-once p a b (fits a ha p) (fits b hb p))
       f plate
@@ -394,7 +394,7 @@ module _ {k w h : ℕ} {f : List ℕ} (plate : Plate k w h f) where
       → NowhereLighter (pick negated (closed k w h limit g) (opened k w h limit g)) (pick negated (closed k w h limit f) (opened k w h limit f))
   unfolding closed
   cleaned-order true limit m g other b =
-      negated-grows k w h (opened k w h limit)
+      dual-grows k w h (opened k w h limit)
       (λ g p. opened-plate p limit (fits limit m p))
       (λ f g pf pg b. opened-grows pf limit (fits limit m pf) g pg b)
       f g plate other b

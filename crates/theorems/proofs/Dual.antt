@@ -1,5 +1,5 @@
--- An operation on plates through the negative: it works on the negative, and its answer is negated back. What two operations make one after the other,
--- and that an operation is increasing, hold of them through the negative too; so closing has both from opening.
+-- The dual of an operation on plates: it works on the negative, and its answer is negated back; closing is the dual of opening. What two operations make
+-- one after the other their duals make too, and the dual of an increasing operation is increasing.
 use mathlib.Core.Path.{_≡_, sym, ap, _∙_}
 use mathlib.Core.List.{List}
 use Prim.Native.Nat.{ℕ, _<_}
@@ -20,21 +20,21 @@ negative-falls {f = f} {g} pf pg b = (
 
 module _ (k w h : ℕ) where
   -- an operation that makes plates of plates
-  abbrev Kept : (List ℕ → List ℕ) → Type 0
-  Kept op = (f : List ℕ) → Plate k w h f → Plate k w h (op f)
+  abbrev OnPlates : (List ℕ → List ℕ) → Type 0
+  OnPlates op = (f : List ℕ) → Plate k w h f → Plate k w h (op f)
 
   -- first op, then op′ is op″
-  pub negated-twice : (op op′ op″ : List ℕ → List ℕ) → Kept op → ((f : List ℕ) → Plate k w h f → op′ (op f) ≡ op″ f)
+  pub dual-twice : (op op′ op″ : List ℕ → List ℕ) → OnPlates op → ((f : List ℕ) → Plate k w h f → op′ (op f) ≡ op″ f)
       → (f : List ℕ) → Plate k w h f → negative (op′ (negative (negative (op (negative f))))) ≡ negative (op″ (negative f))
-  negated-twice op op′ op″ kept twice f plate =
+  dual-twice op op′ op″ plates twice f plate =
       let neg : Plate k w h (negative f) = negative-plate plate in
-      ap (λ (g : List ℕ). negative (op′ g)) (negative-twice (kept (negative f) neg)) ∙ ap negative (twice (negative f) neg)
+      ap (λ (g : List ℕ). negative (op′ g)) (negative-twice (plates (negative f) neg)) ∙ ap negative (twice (negative f) neg)
 
   -- op is increasing
-  pub negated-grows : (op : List ℕ → List ℕ) → Kept op
+  pub dual-grows : (op : List ℕ → List ℕ) → OnPlates op
       → ((f g : List ℕ) → Plate k w h f → Plate k w h g → NowhereLighter g f → NowhereLighter (op g) (op f))
       → (f g : List ℕ) → Plate k w h f → Plate k w h g → NowhereLighter g f → NowhereLighter (negative (op (negative g))) (negative (op (negative f)))
-  negated-grows op kept grows f g pf pg b =
+  dual-grows op plates grows f g pf pg b =
       let nf : Plate k w h (negative f) = negative-plate pf in
       let ng : Plate k w h (negative g) = negative-plate pg in
-      negative-falls (kept (negative g) ng) (kept (negative f) nf) (grows (negative g) (negative f) ng nf (negative-falls pf pg b))
+      negative-falls (plates (negative g) ng) (plates (negative f) nf) (grows (negative g) (negative f) ng nf (negative-falls pf pg b))
