@@ -94,38 +94,31 @@ fn two_plates() {
 }
 
 /// A plate of as many pixels as there may be.
-fn largest(kind: &str, connectivity: Connectivity) -> Plate {
+fn largest(kind: &str) -> Plate {
     let made = picture(kind, 4096, 4096);
     Plate {
         width: made.width(),
         height: made.height(),
-        connectivity: connectivity.number(),
+        connectivity: Connectivity::Six.number(),
         greys: made.into_greys(),
     }
 }
 
+/// Both on a plate of 16,777,216 pixels: a relief, and the same with specks.
 #[test]
-fn two_limits_on_the_largest_plate() {
-    for (side, connectivity) in [
-        (Side::Light, Connectivity::Four),
-        (Side::Dark, Connectivity::Six),
-    ] {
-        let plate = largest("noise", connectivity);
-        assert_eq!(check_two_limits(&plate, side, 20, 70_000), [true; 2]);
-    }
-    let plate = largest("terrain", Connectivity::Eight);
+fn the_largest_plate() {
+    let darker = largest("terrain");
+    let greys = darker.greys.iter().zip(largest("noise").greys);
+    let specked = greys.map(|(&grey, speck)| grey.max(speck & 127));
+    let lighter = darker.with(specked.collect());
     assert_eq!(
-        check_two_limits(&plate, Side::Dark, 70_000, 65_536),
+        check_two_limits(&lighter, Side::Light, 3, 70_000),
+        [true; 2]
+    );
+    assert_eq!(
+        check_two_limits(&darker, Side::Dark, 70_000, 65_536),
         [true, false]
     );
-}
-
-#[test]
-fn two_of_the_largest_plates() {
-    let darker = largest("terrain", Connectivity::Six);
-    let noise = largest("noise", Connectivity::Six);
-    let greys = darker.greys.iter().zip(&noise.greys);
-    let lighter = darker.with(greys.map(|(&grey, &speck)| grey.max(speck)).collect());
     for side in Side::ALL {
         assert!(check_order(&lighter, &darker, side, 65_536));
     }
