@@ -174,11 +174,11 @@ module _ {k w h : ℕ} {f : List ℕ} (plate : Plate k w h f) where
   closed-negative limit = rw negative-twice
 
   -- a plate cleaned is a plate
-  side-plate : (negated : Bool) (limit : ℕ) → limit ≤ length f → Plate k w h (pick negated (closed k w h limit f) (opened k w h limit f))
+  either-plate : (negated : Bool) (limit : ℕ) → limit ≤ length f → Plate k w h (pick negated (closed k w h limit f) (opened k w h limit f))
   unfolding closed
-  side-plate true limit m = negative-plate (opened-plate (negative-plate plate) limit (omega (arith, negative-length f)))
-  side-plate false limit m = opened-plate plate limit m
+  either-plate true limit m = negative-plate (opened-plate (negative-plate plate) limit (omega (arith, negative-length f)))
+  either-plate false limit m = opened-plate plate limit m
 
   pub cleaned-plate : (side limit : ℕ) → limit ≤ length f → Plate k w h (cleaned side k w h limit f)
   unfolding cleaned
-  cleaned-plate side = side-plate (eqb side darkSide)
+  cleaned-plate side = either-plate (eqb side darkSide)
