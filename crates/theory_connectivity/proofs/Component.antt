@@ -1,6 +1,7 @@
 -- The component of a pixel, computed: the set is grown from the pixel, by all that is near to it and passes, until nothing is added.
 -- n rounds are enough.
--- Proved: a pixel is in the computed component if and only if a path joins it to p.
+-- Proved: a pixel is in the computed component if and only if a path joins it to p (component-sound, component-complete); tests that agree below n have
+-- one component, as lists (component-same).
 use mathlib.Core.Path.{_≡_, refl, sym, ap, _∙_}
 use mathlib.Core.Logic.{_⊎_, inl, inr, _↔_}
 use mathlib.Core.Bool.{Bool, true, false, _&&_, _||_}
@@ -11,7 +12,7 @@ use lib.Dec.{T, eqb, eqb→eq, eqb-refl}
 use Rattle.meaning.specs.Component.{alone, component, grown, same, settle}
 use Rattle.meaning.specs.Paths.{Joined, here, step}
 use Rattle.meaning.specs.Sets.{Within, area, has, pick, some, table}
-use Rattle.theory_lists.proofs.Lists.{getD-table}
+use Rattle.theory_lists.proofs.Lists.{getD-table, table-same}
 use Rattle.theory_connectivity.proofs.Paths.{along, end-below, start-below, start-ok}
 use Rattle.theory_lists.proofs.Sets.{area-full, area-grows, some-elim, some-intro}
 use Rattle.theory_lists.proofs.Tests.{either-cases, tests}
@@ -167,3 +168,25 @@ module _ (n : ℕ) (near : ℕ → ℕ → Bool) (ok : ℕ → Bool) where
     component-complete q j = rw (settle-times n (grown n near ok) (alone n ok p))
         (along (λ (a : ℕ). T (has (round n) a)) (starts (start-below j) (start-ok j) n)
         (λ a b i t h l k. settled b l (grown-adds (round n) a b (end-below i) l t h k)) j)
+
+-- ---- the component depends only on which pixels pass
+
+-- steps that do the same settle at the same
+settle-same : (k : ℕ) (f f′ : List Bool → List Bool) → ((s : List Bool) → f s ≡ f′ s) → (s : List Bool) → settle k f s ≡ settle k f′ s
+unfolding settle
+settle-same zero f f′ e s = refl
+settle-same (suc k) f f′ e s = rw (e s, settle-same k f f′ e (f′ s))
+
+pub component-same : (n : ℕ) (near : ℕ → ℕ → Bool) (ok ok′ : ℕ → Bool) → ((q : ℕ) → q < n → ok q ≡ ok′ q)
+    → (p : ℕ) → component n near ok p ≡ component n near ok′ p
+unfolding component grown alone
+component-same n near ok ok′ e p =
+    settle-same n (grown n near ok) (grown n near ok′) turn (alone n ok p)
+    ∙ ap (settle n (grown n near ok′)) (table-same n (λ (q : ℕ). ok q && eqb p q) (λ (q : ℕ). ok′ q && eqb p q) (λ q l. rw (e q l)))
+  where
+    reached : List Bool → ℕ → Bool
+    reached s q = some n (λ (r : ℕ). has s r && near r q)
+
+    turn : (s : List Bool) → grown n near ok s ≡ grown n near ok′ s
+    turn s =
+        table-same n (λ (q : ℕ). has s q || (ok q && reached s q)) (λ (q : ℕ). has s q || (ok′ q && reached s q)) (λ q l. rw (e q l))

@@ -1,10 +1,10 @@
 -- What sizes that fit say, as orders.
-use mathlib.Core.Path.{_≡_}
+use mathlib.Core.Path.{_≡_, refl}
 use mathlib.Core.Bool.{true, _&&_}
 use Prim.Native.Nat.{ℕ, _*_, _≤_}
 use native.Mathlib.Nat.{mul-le-mul}
 use lib.Dec.{T, leb, leb→le}
-use Rattle.meaning.specs.Plate.{gridFits, maxPixels, maxExtent}
+use Rattle.meaning.specs.Plate.{greatestFits, greatestGrey, gridFits, maxGreatest, maxPixels, maxExtent}
 use Rattle.theory_lists.proofs.Tests.{passes, tests}
 
 -- a width or a height that fits
@@ -37,6 +37,22 @@ grid-sizes w h e =
       few-pixels = leb→le (w * h) maxPixels (search tests);
     }
 
--- the product of the two
+-- a greatest grey that fits
+pub record Range (M : ℕ) : Type 0 where
+  pub least : 1 ≤ M
+  pub most : M ≤ maxGreatest
+
+pub greatest-range : (M : ℕ) → greatestFits M ≡ true → Range M
+unfolding greatestFits
+greatest-range M e =
+    let t : T (greatestFits M) = passes e in
+    record { least = leb→le 1 M (search tests); most = leb→le M maxGreatest (search tests) }
+
+-- that of a byte does
+pub byte-range : greatestFits greatestGrey ≡ true
+unfolding greatestFits
+byte-range = refl
+
+-- the product of the width and the height
 pub product : (w h : ℕ) → Extent w → Extent h → w * h ≤ maxExtent * maxExtent
 product w h a b = mul-le-mul {n₁ = w} {m₁ = h} {n₂ = maxExtent} {m₂ = maxExtent} (a .most) (b .most)

@@ -4,7 +4,7 @@ use mathlib.Core.Logic.{_⊎_, inl, inr, _↔_}
 use mathlib.Core.Bool.{Bool, true, false}
 use Prim.Native.Nat.{ℕ, zero, suc, _+_, _≤_, _<_}
 use native.Mathlib.Nat.{le-antisymm, le-refl, not-suc-le-zero, le-of-suc-le-suc}
-use native.Mathlib.Decide.{decLe}
+use native.Mathlib.Decide.{decLe, ℕ-discrete}
 use native.Mathlib.Omega.{arith}
 use lib.Dec.{T}
 use Rattle.meaning.specs.Sets.{Within, area, bit, greatest, lowest, most, pick, some}
@@ -18,6 +18,10 @@ below-suc {n = zero} P f e zero h = e
 below-suc {n = zero} P f e (suc q) h = absurd (not-suc-le-zero (le-of-suc-le-suc h))
 below-suc {n = suc n} P f e zero h = f zero (omega arith)
 below-suc {n = suc n} P f e (suc q) h = below-suc (λ (k : ℕ). P (suc k)) (λ k l. f (suc k) (omega arith)) e q (le-of-suc-le-suc h)
+
+-- two numbers are equal or not
+pub same-or-not : (a b : ℕ) → (a ≡ b) ⊎ (a ≡ b → ⊥)
+same-or-not a b = elim (ℕ-discrete a b) [ yes e ↦ inl e | no e ↦ inr e ]
 
 -- ---- is there a member
 
@@ -60,6 +64,20 @@ pub area-le : (n : ℕ) (s : ℕ → Bool) → area n s ≤ n
 unfolding area
 area-le zero s = omega arith
 area-le (suc n) s = omega (arith, area-le n s, bit-le (s n))
+
+-- a greater bound
+pub area-bound-le : (k m : ℕ) (s : ℕ → Bool) → k ≤ m → area k s ≤ area m s
+unfolding area
+area-bound-le k zero s h = let e : k ≡ 0 = omega arith in rw e (omega arith)
+area-bound-le k (suc m) s h = elim (decLe k m) [
+  | yes l ↦ omega (arith, area-bound-le k m s l)
+  | no l ↦ let e : k ≡ suc m = omega arith in rw e (omega arith)
+]
+
+-- a bound above a member
+pub area-bound-less : (k m : ℕ) (s : ℕ → Bool) → k < m → T (s k) → area k s < area m s
+unfolding area
+area-bound-less k m s h t = omega (arith, bit-yes (s k) t, area-bound-le (suc k) m s h)
 
 -- a set of n members has every number below n
 pub area-full : (n : ℕ) (s : ℕ → Bool) → n ≤ area n s → (q : ℕ) → q < n → T (s q)

@@ -114,6 +114,12 @@ unfolding sum
 sum-split k zero g = rw (add-zero k) (omega arith)
 sum-split k (suc d) g = rw (add-suc k d) (omega (arith, sum-split k d g))
 
+-- an area in two parts
+pub area-split : (k d : ℕ) (s : ℕ → Bool) → area (k + d) s ≡ area k s + area d (λ (i : ℕ). s (k + i))
+unfolding area
+area-split k zero s = rw (add-zero k) (omega arith)
+area-split k (suc d) s = rw (add-suc k d) (omega (arith, area-split k d s))
+
 -- the first value apart: sums from either end
 pub sum-first : (n : ℕ) (g : ℕ → ℕ) → sum (suc n) g ≡ g 0 + sum n (λ (q : ℕ). g (suc q))
 unfolding sum

@@ -1,4 +1,4 @@
--- Laws of the component tree: its nodes, parents, own nodes; the cut; sums over the nodes.
+-- Laws of the component tree: its nodes, parents, own nodes; the cut; sums over the nodes; greys of one order have one tree.
 pub mod Hits
 pub mod Keys
 pub mod Anchors
@@ -10,3 +10,4 @@ pub mod Children
 pub mod Cuts
 pub mod Leaves
 pub mod NodeSets
+pub mod Order

@@ -16,8 +16,9 @@ use lib.ListN.{length}
 use Rattle.meaning.specs.Nodes.{anchor, anchors, areaOf, holds, node, own, parent}
 use Rattle.meaning.specs.Opening.{lighter}
 use Rattle.meaning.specs.Paths.{Grid, here}
-use Rattle.meaning.specs.Sets.{Distinct, Within, nth, rising, some}
+use Rattle.meaning.specs.Sets.{Distinct, Within, elem, nth, rising, some}
 use Rattle.theory_lists.proofs.Lists.{
+  distinct-area,
   elem-nth,
   gather-rising,
   gather-sound,
@@ -32,7 +33,7 @@ use Rattle.theory_lists.proofs.Lists.{
   rising-sound,
 }
 use Rattle.theory_connectivity.proofs.Paths.{end-ok, joined-mono, joined-sym, joined-trans, start-below}
-use Rattle.theory_lists.proofs.Sets.{area-all, area-grows, greatest-good, greatest-le, greatest-most, some-elim, some-intro, top}
+use Rattle.theory_lists.proofs.Sets.{area-all, area-grows, area-le, greatest-good, greatest-le, greatest-most, some-elim, some-intro, top}
 use Rattle.theory_lists.proofs.Tests.{choice, orders, tests}
 use Rattle.theory_opening.proofs.Opening.{joined-patch, patch-joined}
 use Rattle.theory_tree.specs.Tree.{Before, Nodes, Over, Parent, key}
@@ -136,6 +137,10 @@ module _ {n : ℕ} {near : ℕ → ℕ → Bool} (grid : Grid n near) {f : ℕ �
 
   pub nodes-distinct : Distinct xs
   nodes-distinct = rising-distinct (key n f) xs (nodes .order)
+
+  -- there are no more nodes than pixels
+  pub nodes-few : length xs ≤ n
+  nodes-few = le-trans (distinct-area n xs nodes-distinct (nodes .inside)) (area-le n (elem xs))
 
   -- nodes of one level with a common pixel are one node
   pub level-same : (i j p : ℕ) → i < length xs → j < length xs → Over n near f (nth xs i) p → Over n near f (nth xs j) p
