@@ -2,11 +2,11 @@
 use mathlib.Core.Path.{_≡_, refl}
 use mathlib.Core.Bool.{Bool, true, false}
 use mathlib.Core.List.{List, [], _∷_, _++_, map}
-use Prim.Native.Nat.{ℕ, _-_, _*_}
+use Prim.Native.Nat.{ℕ, suc, _-_, _*_}
 use lib.Dec.{ltb}
 use lib.ListN.{drop, set, take}
 use Rattle.meaning.specs.Sets.{area, table}
-use Rattle.meaning.specs.Plate.{greatestGrey, negative, apart, onTrimEdge}
+use Rattle.meaning.specs.Plate.{greatestFits, greatestGrey, lightest, maxGreatest, negative, apart, onTrimEdge}
 use Rattle.meaning.specs.Opening.{opened, cleaned, lightSide, darkSide, atLeast, attribute, reaches}
 use Rattle.meaning.specs.Maxima.{marks}
 use Rattle.meaning.specs.Nodes.{nodesOf}
@@ -15,6 +15,10 @@ use Rattle.meaning.specs.Record.{recordOf, encode}
 use Rattle.meaning.specs.Ink.{rounded, inkOf}
 use Rattle.meaning.specs.Answers.{cleanRefusal, filterRefusal, maximaRefusal, treeRefusal}
 use Rattle.meaning.specs.Examples.{small, pair, run, workedCases, Case, diagonals, edges, neighbours, steps, places, borders, byCorner, trimEdge}
+
+-- the greatest grey of the examples
+abbrev M : ℕ
+M = greatestGrey
 
 -- every worked case of SPECIFICATION 10
 pub marked-hold : map (λ (c : Case). run (c .job)) workedCases ≡ map (λ (c : Case). c .answer) workedCases
@@ -79,8 +83,8 @@ abbrev inner : List ℕ → List ℕ
 inner f = take 5 (drop 8 f) ++ take 5 (drop 15 f)
 
 -- cleaned at limit 2, and its regional maxima marked, the plate with a pair on each diagonal differs with 4, 6 and 8
-pub diagonals-cleaned : inner (cleaned lightSide 4 7 4 2 diagonals) ∷ inner (cleaned lightSide 6 7 4 2 diagonals)
-    ∷ inner (cleaned lightSide 8 7 4 2 diagonals) ∷ []
+pub diagonals-cleaned : inner (cleaned lightSide 4 7 4 M 2 diagonals) ∷ inner (cleaned lightSide 6 7 4 M 2 diagonals)
+    ∷ inner (cleaned lightSide 8 7 4 M 2 diagonals) ∷ []
     ≡ (0 ∷ 0 ∷ 0 ∷ 0 ∷ 0 ∷ 0 ∷ 0 ∷ 0 ∷ 0 ∷ 0 ∷ [])
     ∷ (8 ∷ 0 ∷ 0 ∷ 0 ∷ 0 ∷ 0 ∷ 8 ∷ 0 ∷ 0 ∷ 0 ∷ [])
     ∷ (8 ∷ 0 ∷ 0 ∷ 0 ∷ 8 ∷ 0 ∷ 8 ∷ 0 ∷ 8 ∷ 0 ∷ [])
@@ -97,7 +101,7 @@ unfolding marks
 diagonals-marks = refl
 
 -- the dark side on the negative
-pub diagonals-dark : cleaned darkSide 6 7 4 2 (negative diagonals) ≡ negative (cleaned lightSide 6 7 4 2 diagonals)
+pub diagonals-dark : cleaned darkSide 6 7 4 M 2 (negative M diagonals) ≡ negative M (cleaned lightSide 6 7 4 M 2 diagonals)
 unfolding cleaned negative
 diagonals-dark = refl
 
@@ -133,12 +137,13 @@ unfolding trimEdge
 trim-edges = refl
 
 -- a patch on any border of the sheet stays, light or dark; the one in the middle goes
-pub borders-stay : cleaned lightSide 4 5 5 25 borders ∷ cleaned darkSide 4 5 5 2 (negative borders) ∷ [] ≡ set borders 12 0 ∷ negative (set borders 12 0) ∷ []
+pub borders-stay : cleaned lightSide 4 5 5 M 25 borders ∷ cleaned darkSide 4 5 5 M 2 (negative M borders) ∷ []
+    ≡ set borders 12 0 ∷ negative M (set borders 12 0) ∷ []
 unfolding cleaned negative
 borders-stay = refl
 
 -- a pixel off the edge that has one of the edge at its corner reaches it only where corners touch
-pub corner-reaches : cleaned lightSide 4 4 4 2 byCorner ∷ cleaned lightSide 6 4 4 2 byCorner ∷ [] ≡ set byCorner 9 0 ∷ byCorner ∷ []
+pub corner-reaches : cleaned lightSide 4 4 4 M 2 byCorner ∷ cleaned lightSide 6 4 4 M 2 byCorner ∷ [] ≡ set byCorner 9 0 ∷ byCorner ∷ []
 unfolding cleaned
 corner-reaches = refl
 
@@ -149,12 +154,12 @@ pub halves-up : rounded 4 10 ∷ rounded 5 10 ∷ rounded 6 10 ∷ rounded 1 2 �
 unfolding rounded
 halves-up = refl
 
--- the ink percentage is the nearest whole number, for each of the 256 greys
-pub ink-nearest : table 256 (λ (g : ℕ). ltb (2 * apart (greatestGrey * inkOf g) ((greatestGrey - g) * 100)) greatestGrey) ≡ table 256 (λ (g : ℕ). true)
+-- the ink percentage is the nearest whole number, for each grey
+pub ink-nearest : table (suc M) (λ (g : ℕ). ltb (2 * apart (M * inkOf M g) ((M - g) * 100)) M) ≡ table (suc M) (λ (g : ℕ). true)
 unfolding table inkOf
 ink-nearest = refl
 
-pub ink-rest : inkOf 10 ∷ inkOf 7 ∷ [] ≡ 96 ∷ 97 ∷ []
+pub ink-rest : inkOf M 10 ∷ inkOf M 7 ∷ [] ≡ 96 ∷ 97 ∷ []
 unfolding inkOf
 ink-rest = refl
 
@@ -181,6 +186,23 @@ unfolding cleanRefusal
 side-refusals = refl
 
 -- the dark side on the negative gives the negative of the light side
-pub light-and-dark : cleaned darkSide 4 4 3 2 (negative small) ≡ negative (cleaned lightSide 4 4 3 2 small)
+pub light-and-dark : cleaned darkSide 4 4 3 M 2 (negative M small) ≡ negative M (cleaned lightSide 4 4 3 M 2 small)
 unfolding cleaned negative
 light-and-dark = refl
+
+-- also with the greatest grey that there may be
+pub light-and-dark-16 : cleaned darkSide 4 4 3 maxGreatest 2 (negative maxGreatest small) ≡ negative maxGreatest (cleaned lightSide 4 4 3 maxGreatest 2 small)
+unfolding cleaned negative
+light-and-dark-16 = refl
+
+-- ---- the range of greys
+
+-- the greatest grey is 1 to 65,535; the small plate's lightest grey is 90
+pub greatest-greys : greatestFits 0 ∷ greatestFits 1 ∷ greatestFits M ∷ greatestFits maxGreatest ∷ greatestFits (suc maxGreatest) ∷ []
+    ≡ false ∷ true ∷ true ∷ true ∷ false ∷ []
+unfolding greatestFits
+greatest-greys = refl
+
+pub small-lightest : lightest small ≡ 90
+unfolding lightest
+small-lightest = refl

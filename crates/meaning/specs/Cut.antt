@@ -5,7 +5,7 @@ use Prim.Native.Nat.{ℕ, suc, _-_, _*_}
 use lib.Dec.{eqb}
 use lib.ListN.{length}
 use Rattle.meaning.specs.Sets.{pick, area, sum, most, lowest, table, elem}
-use Rattle.meaning.specs.Plate.{greatestGrey, touch, grey, onTrimEdge}
+use Rattle.meaning.specs.Plate.{touch, grey, lightest, onTrimEdge}
 use Rattle.meaning.specs.Opening.{atLeast, attribute, reaches}
 use Rattle.meaning.specs.Nodes.{levelOf, holds, nodesOf}
 
@@ -42,8 +42,8 @@ total f = sum (length f) (grey f)
 
 -- a plate's darkest grey: the least that a pixel has
 unfoldable pub darkest : List ℕ → ℕ
-unfolding lowest
-darkest f = lowest (suc greatestGrey) (elem f)
+unfolding lowest lightest
+darkest f = lowest (lightest f) (elem f)
 
 -- the size list: for each area from 1 to pixels - 1 the number of nodes off the trim edge of that area; one on the edge has all the pixels for its
 -- attribute (crate theorems, 7)

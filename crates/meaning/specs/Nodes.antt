@@ -8,7 +8,7 @@ use lib.ListN.{length}
 use Rattle.meaning.specs.Sets.{Within, area, greatest, lowest, nth, has, place, rising, gather}
 use Rattle.meaning.specs.Paths.{Joined}
 use Rattle.meaning.specs.Opening.{lighter, patch}
-use Rattle.meaning.specs.Plate.{greatestGrey, touch, grey}
+use Rattle.meaning.specs.Plate.{touch, grey, lightest}
 
 -- the node whose level is a's grey and that holds a
 unfoldable pub node : ℕ → (ℕ → ℕ → Bool) → (ℕ → ℕ) → ℕ → List Bool
@@ -20,7 +20,7 @@ unfoldable pub anchor : ℕ → (ℕ → ℕ → Bool) → (ℕ → ℕ) → ℕ
 unfolding node lowest
 anchor n near f p = let c = node n near f p in lowest n (λ (q : ℕ). has c q && eqb (f q) (f p))
 
--- the anchors of all nodes, level rising, then anchor rising; m is the greatest grey. Node i is the node of the i-th anchor, counted from 0
+-- the anchors of all nodes, level rising, then anchor rising; no grey is above m. Node i is the node of the i-th anchor, counted from 0
 unfoldable pub anchors : ℕ → ℕ → (ℕ → ℕ → Bool) → (ℕ → ℕ) → List ℕ
 unfolding gather rising anchor
 anchors m n near f = gather (suc m) (λ (t : ℕ). rising n (λ (p : ℕ). let r = anchor n near f p in let own = eqb r p in eqb (f p) t && own))
@@ -75,5 +75,5 @@ Same n s s′ = Within n s s′ × Within n s′ s
 
 -- the anchors of a plate's nodes
 unfoldable pub nodesOf : ℕ → ℕ → List ℕ → List ℕ
-unfolding anchors touch
-nodesOf k w f = anchors greatestGrey (length f) (touch k w) (grey f)
+unfolding anchors touch lightest
+nodesOf k w f = anchors (lightest f) (length f) (touch k w) (grey f)

@@ -62,10 +62,10 @@ unfoldable pub opened : ℕ → ℕ → ℕ → ℕ → List ℕ → List ℕ
 unfolding openedAt table touch area reaches onTrimEdge
 opened k w h limit f = table (length f) (openedAt (length f) (touch k w) (atLeast (attribute w h) limit) (grey f))
 
--- the closed value is the greatest grey minus the opened value on the negative
-unfoldable pub closed : ℕ → ℕ → ℕ → ℕ → List ℕ → List ℕ
+-- the closed value is the greatest grey M minus the opened value on the negative
+unfoldable pub closed : ℕ → ℕ → ℕ → ℕ → ℕ → List ℕ → List ℕ
 unfolding opened negative
-closed k w h limit f = negative (opened k w h limit (negative f))
+closed k w h M limit f = negative M (opened k w h limit (negative M f))
 
 -- ---- cleaning a plate on a side
 
@@ -80,9 +80,9 @@ unfoldable pub sideFits : ℕ → Bool
 sideFits side = eqb side lightSide || eqb side darkSide
 
 -- a plate cleaned on a side: closed on the dark one, opened on the light one
-unfoldable pub cleaned : ℕ → ℕ → ℕ → ℕ → ℕ → List ℕ → List ℕ
+unfoldable pub cleaned : ℕ → ℕ → ℕ → ℕ → ℕ → ℕ → List ℕ → List ℕ
 unfolding opened closed
-cleaned side k w h limit f = pick (eqb side darkSide) (closed k w h limit f) (opened k w h limit f)
+cleaned side k w h M limit f = pick (eqb side darkSide) (closed k w h M limit f) (opened k w h limit f)
 
 -- ---- the specification's words
 

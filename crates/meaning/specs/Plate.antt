@@ -1,14 +1,21 @@
 -- A plate (a grey image): a list of greys, row by row; SPECIFICATION 2. The one place that knows the sizes, the kinds of
--- connectivity, the trim edge and the greatest grey.
+-- connectivity, the trim edge and the range of greys. M: the greatest grey.
 use mathlib.Core.Path.{_≡_}
 use mathlib.Core.Bool.{Bool, true, _&&_, _||_}
 use mathlib.Core.List.{List, map}
 use Prim.Native.Nat.{ℕ, _+_, _-_, _*_, _/_, _%_, _≤_, _<_, max}
 use lib.Dec.{eqb, leb}
 use lib.ListN.{length, getD}
-use Rattle.meaning.specs.Sets.{pick}
+use Rattle.meaning.specs.Sets.{pick, most}
 
--- a grey runs from 0 to the greatest grey, bare paper
+-- a grey runs from 0 to the greatest grey, bare paper, which is 1 to 65,535
+abbrev pub maxGreatest : ℕ
+maxGreatest = 65535
+
+unfoldable pub greatestFits : ℕ → Bool
+greatestFits M = leb 1 M && leb M maxGreatest
+
+-- the greatest grey of the plates that the operations take, whose greys are bytes
 abbrev pub greatestGrey : ℕ
 greatestGrey = 255
 
@@ -69,16 +76,22 @@ onTrimEdge w h p = (eqb (p / w) 0 || eqb (p / w + 1) h) || (eqb (p % w) 0 || eqb
 abbrev pub grey : List ℕ → ℕ → ℕ
 grey f p = getD f p 0
 
--- the negative: the greatest grey minus each grey
-unfoldable pub negative : List ℕ → List ℕ
-negative f = map (λ (g : ℕ). greatestGrey - g) f
+-- the grey of the lightest pixel
+unfoldable pub lightest : List ℕ → ℕ
+unfolding most
+lightest f = most (length f) (grey f)
 
--- f is a plate of width w and height h, with connectivity k: an accepted plate with its connectivity (SPECIFICATION 2)
-pub record Plate (k w h : ℕ) (f : List ℕ) : Type 0 where
+-- the negative: the greatest grey minus each grey
+unfoldable pub negative : ℕ → List ℕ → List ℕ
+negative M f = map (λ (g : ℕ). M - g) f
+
+-- f is a plate of width w, height h and greatest grey M, with connectivity k: an accepted plate with its connectivity (SPECIFICATION 2)
+pub record Plate (k w h M : ℕ) (f : List ℕ) : Type 0 where
   pub kind : connectivityFits k ≡ true
   pub sizes : gridFits w h ≡ true
+  pub range : greatestFits M ≡ true
   pub long : length f ≡ w * h
-  pub greys : (p : ℕ) → p < length f → grey f p ≤ greatestGrey
+  pub greys : (p : ℕ) → p < length f → grey f p ≤ M
 
 -- one plate of n pixels is nowhere lighter than another: no pixel has a greater grey in it
 abbrev pub Below : ℕ → (ℕ → ℕ) → (ℕ → ℕ) → Type 0

@@ -13,7 +13,7 @@ use Rattle.meaning.specs.Cut.{countAt, cut, darkest, held, total}
 use Rattle.meaning.specs.Maxima.{LargeMaxima, MaximaKept, Maximum, flatZone, marks, maximum}
 use Rattle.meaning.specs.Nodes.{areaOf, holds, nodesOf, own, rise}
 use Rattle.meaning.specs.Opening.{Reaches, atLeast, attribute, cleaned, closed, darkSide, opened, openedAt, reaches}
-use Rattle.meaning.specs.Plate.{NowhereLighter, Plate, greatestGrey, grey, negative, onTrimEdge, touch}
+use Rattle.meaning.specs.Plate.{NowhereLighter, Plate, grey, negative, onTrimEdge, touch}
 use Rattle.meaning.specs.Sets.{area, bit, has, nth, pick, sum, table}
 use Rattle.theory_connectivity.proofs.Component.{component-complete, component-sound}
 use Rattle.theory_connectivity.proofs.Touch.{touch-sym, touch-whole}
@@ -121,7 +121,7 @@ neighbours-mutual = touch-sym
 pub grid-connected : GridConnected
 grid-connected = touch-whole
 
-module _ {k w h : ℕ} {f : List ℕ} (plate : Plate k w h f) where
+module _ {k w h M : ℕ} {f : List ℕ} (plate : Plate k w h M f) where
   abbrev n : ℕ
   n = length f
 
@@ -136,17 +136,17 @@ module _ {k w h : ℕ} {f : List ℕ} (plate : Plate k w h f) where
   pub opened-is-greatest : OpenedIsGreatest k w h f
   opened-is-greatest limit t p m l = rw (opened-grey plate limit p l) (trim-words w h (plate .long) (grey f) limit t p (plate-grid plate) m l)
 
-  pub closed-is-least : ClosedIsLeast k w h f
+  pub closed-is-least : ClosedIsLeast k w h f M
   closed-is-least limit t p m l =
-      let neg : Plate k w h (negative f) = negative-plate plate in
-      let e : length (negative f) ≡ n = negative-length f in
-      let o : grey (opened k w h limit (negative f)) p ≤ greatestGrey =
+      let neg : Plate k w h M (negative M f) = negative-plate plate in
+      let e : length (negative M f) ≡ n = negative-length M f in
+      let o : grey (opened k w h limit (negative M f)) p ≤ M =
       opened-plate neg limit (omega arith) .greys p (omega (arith, opened-length neg limit)) in
-      let c : greatestGrey - grey (closed k w h limit f) p ≡ openedAt n near (atLeast (attribute w h) limit) (grey (negative f)) p =
+      let c : M - grey (closed k w h M limit f) p ≡ openedAt n near (atLeast (attribute w h) limit) (grey (negative M f)) p =
       (omega (arith, closed-grey plate limit p l))
       ∙ opened-grey neg limit p (omega arith)
-      ∙ ap (λ (m : ℕ). openedAt m near (atLeast (attribute w h) limit) (grey (negative f)) p) e in
-      rw c (trim-words w h (plate .long) (grey (negative f)) limit t p (plate-grid plate) m l)
+      ∙ ap (λ (m : ℕ). openedAt m near (atLeast (attribute w h) limit) (grey (negative M f)) p) e in
+      rw c (trim-words w h (plate .long) (grey (negative M f)) limit t p (plate-grid plate) m l)
 
   -- ---- 4. the opening
 
@@ -210,7 +210,7 @@ module _ {k w h : ℕ} {f : List ℕ} (plate : Plate k w h f) where
           → opened k w h limit g ≡ table m (openedAt m near (atLeast (attribute w h) limit) (grey g))
       opened-of limit g m e = rw (← e)
 
-  pub opened-grows : OpenedGrows k w h f
+  pub opened-grows : OpenedGrows k w h f M
   opened-grows limit m g other b = (
     opened-length other limit ∙ b .0 ∙ sym (opened-length plate limit),
     λ p l.
@@ -370,36 +370,36 @@ module _ {k w h : ℕ} {f : List ℕ} (plate : Plate k w h f) where
 
 -- ---- 9. cleaning, on either side: opening on the light one, its dual on the dark one
 
-module _ {k w h : ℕ} {f : List ℕ} (plate : Plate k w h f) where
+module _ {k w h M : ℕ} {f : List ℕ} (plate : Plate k w h M f) where
   -- a limit that fits this plate fits every plate of its sizes
-  fits : {g : List ℕ} (limit : ℕ) → limit ≤ length f → Plate k w h g → limit ≤ length g
+  fits : {g : List ℕ} (limit : ℕ) → limit ≤ length f → Plate k w h M g → limit ≤ length g
   fits limit m p = omega (arith, plate .long, p .long)
 
   cleaned-twice : (negated : Bool) (a b : ℕ) → a ≤ length f → b ≤ length f
-      → let once = pick negated (closed k w h a f) (opened k w h a f) in
-      pick negated (closed k w h b once) (opened k w h b once) ≡ pick negated (closed k w h (max a b) f) (opened k w h (max a b) f)
+      → let once = pick negated (closed k w h M a f) (opened k w h a f) in
+      pick negated (closed k w h M b once) (opened k w h b once) ≡ pick negated (closed k w h M (max a b) f) (opened k w h (max a b) f)
   unfolding closed
   cleaned-twice true a b ha hb =
-      dual-twice k w h (opened k w h a) (opened k w h b) (opened k w h (max a b))
+      dual-twice k w h M (opened k w h a) (opened k w h b) (opened k w h (max a b))
       (λ g p. opened-plate p a (fits a ha p))
       (λ g p. opened-twice-is-once p a b (fits a ha p) (fits b hb p))
       f plate
   cleaned-twice false a b ha hb = opened-twice-is-once plate a b ha hb
 
-  pub cleaned-twice-is-once : CleanedTwiceIsOnce k w h f
+  pub cleaned-twice-is-once : CleanedTwiceIsOnce k w h f M
   unfolding cleaned
   cleaned-twice-is-once side = cleaned-twice (eqb side darkSide)
 
-  cleaned-order : (negated : Bool) (limit : ℕ) → limit ≤ length f → (g : List ℕ) → Plate k w h g → NowhereLighter g f
-      → NowhereLighter (pick negated (closed k w h limit g) (opened k w h limit g)) (pick negated (closed k w h limit f) (opened k w h limit f))
+  cleaned-order : (negated : Bool) (limit : ℕ) → limit ≤ length f → (g : List ℕ) → Plate k w h M g → NowhereLighter g f
+      → NowhereLighter (pick negated (closed k w h M limit g) (opened k w h limit g)) (pick negated (closed k w h M limit f) (opened k w h limit f))
   unfolding closed
   cleaned-order true limit m g other b =
-      dual-grows k w h (opened k w h limit)
+      dual-grows k w h M (opened k w h limit)
       (λ g p. opened-plate p limit (fits limit m p))
       (λ f g pf pg b. opened-grows pf limit (fits limit m pf) g pg b)
       f g plate other b
   cleaned-order false limit m g other b = opened-grows plate limit m g other b
 
-  pub cleaned-grows : CleanedGrows k w h f
+  pub cleaned-grows : CleanedGrows k w h f M
   unfolding cleaned
   cleaned-grows side = cleaned-order (eqb side darkSide)

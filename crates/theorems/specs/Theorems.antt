@@ -1,5 +1,5 @@
--- The theorems about plates, in the specification's words: what a reader may rely on. A plate is a `Plate k w h f`: connectivity k, width w, height h,
--- greys f. proofs/Theorems.antt proves each under the same name.
+-- The theorems about plates, in the specification's words: what a reader may rely on. A plate is a `Plate k w h M f`: connectivity k, width w, height h,
+-- greatest grey M, greys f. proofs/Theorems.antt proves each under the same name.
 use mathlib.Core.Path.{_≡_}
 use mathlib.Core.Logic.{_⊎_, _↔_}
 use mathlib.Core.Bool.{Bool, true, not, _&&_}
@@ -13,7 +13,7 @@ use Rattle.meaning.specs.Maxima.{LargeMaxima, Maximum, marks, maximum}
 use Rattle.meaning.specs.Nodes.{NodeSet, Same, areaOf, holds, levelOf, nodesOf, own, parent, rise}
 use Rattle.meaning.specs.Opening.{Region, attribute, cleaned, closed, opened, reaches}
 use Rattle.meaning.specs.Paths.{Joined}
-use Rattle.meaning.specs.Plate.{NowhereLighter, Plate, greatestGrey, grey, negative, onTrimEdge, touch}
+use Rattle.meaning.specs.Plate.{NowhereLighter, Plate, grey, negative, onTrimEdge, touch}
 use Rattle.meaning.specs.Sets.{Within, area, has, nth, pick, sum}
 use Rattle.theory_tree.specs.Tree.{Ancestor, Before}
 
@@ -52,10 +52,10 @@ module _ (k w h : ℕ) (f : List ℕ) where
   OpenedIsGreatest = (limit t p : ℕ) → limit ≤ n → p < n → Region n near (onTrimEdge w h) (grey f) limit t p ↔ t ≤ grey (opened k w h limit f) p
 
   -- the closed value is the greatest grey minus the opened value on the negative
-  abbrev pub ClosedIsLeast : Type 0
-  ClosedIsLeast =
+  abbrev pub ClosedIsLeast : ℕ → Type 0
+  ClosedIsLeast M =
       (limit t p : ℕ) → limit ≤ n → p < n
-      → Region n near (onTrimEdge w h) (grey (negative f)) limit t p ↔ t ≤ greatestGrey - grey (closed k w h limit f) p
+      → Region n near (onTrimEdge w h) (grey (negative M f)) limit t p ↔ t ≤ M - grey (closed k w h M limit f) p
 
   -- ---- 4. the opening
 
@@ -81,9 +81,9 @@ module _ (k w h : ℕ) (f : List ℕ) where
   OpenedTwiceIsOnce = (a b : ℕ) → a ≤ n → b ≤ n → opened k w h b (opened k w h a f) ≡ opened k w h (max a b) f
 
   -- the opening is increasing in the plate
-  abbrev pub OpenedGrows : Type 0
-  OpenedGrows =
-      (limit : ℕ) → limit ≤ n → (g : List ℕ) → Plate k w h g → NowhereLighter g f → NowhereLighter (opened k w h limit g) (opened k w h limit f)
+  abbrev pub OpenedGrows : ℕ → Type 0
+  OpenedGrows M =
+      (limit : ℕ) → limit ≤ n → (g : List ℕ) → Plate k w h M g → NowhereLighter g f → NowhereLighter (opened k w h limit g) (opened k w h limit f)
 
   -- ---- 5. the tree
 
@@ -224,11 +224,11 @@ module _ (k w h : ℕ) (f : List ℕ) where
   -- ---- 9. cleaning, on either side
 
   -- cleaning at a and then at b is cleaning at the greater
-  abbrev pub CleanedTwiceIsOnce : Type 0
-  CleanedTwiceIsOnce = (side a b : ℕ) → a ≤ n → b ≤ n → cleaned side k w h b (cleaned side k w h a f) ≡ cleaned side k w h (max a b) f
+  abbrev pub CleanedTwiceIsOnce : ℕ → Type 0
+  CleanedTwiceIsOnce M = (side a b : ℕ) → a ≤ n → b ≤ n → cleaned side k w h M b (cleaned side k w h M a f) ≡ cleaned side k w h M (max a b) f
 
   -- cleaning is increasing in the plate
-  abbrev pub CleanedGrows : Type 0
-  CleanedGrows =
-      (side limit : ℕ) → limit ≤ n → (g : List ℕ) → Plate k w h g → NowhereLighter g f
-      → NowhereLighter (cleaned side k w h limit g) (cleaned side k w h limit f)
+  abbrev pub CleanedGrows : ℕ → Type 0
+  CleanedGrows M =
+      (side limit : ℕ) → limit ≤ n → (g : List ℕ) → Plate k w h M g → NowhereLighter g f
+      → NowhereLighter (cleaned side k w h M limit g) (cleaned side k w h M limit f)
