@@ -1,0 +1,4 @@
+-- Laws of the ranks and of the bitmap.
+pub mod Digits
+pub mod Bitmap
+pub mod Ranks

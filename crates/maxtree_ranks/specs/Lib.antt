@@ -1,0 +1,3 @@
+-- What the functions of this crate ensure.
+pub mod Bitmap
+pub mod Ranks
