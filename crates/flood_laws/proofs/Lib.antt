@@ -5,8 +5,9 @@ pub mod Closing
 pub mod Ending
 pub mod Stacking
 pub mod Measure
-pub mod Linking
+pub mod Tips
 pub mod Steps
+pub mod Pixels
 pub mod Effects
 pub mod Pushes
 pub mod Looks

@@ -5,7 +5,7 @@
 --     Counts    how many pixels each open level has
 --     Names     the pixels' nodes
 --     ClosedNodes    what the closed nodes hold: area, parent
---     Chain     the open levels, each with the next lower one
+--     Next      the lightest open level
 --     Stacks    the pixels whose neighbours are still to be looked at
 use mathlib.Core.Path.{_≡_}
 use mathlib.Core.Logic.{_⊎_}
@@ -16,14 +16,13 @@ use Rattle.meaning.specs.Sets.{area, has, sum}
 use Rattle.meaning.specs.Paths.{Joined}
 use Rattle.meaning.specs.Opening.{lighter}
 use Rattle.meaning.specs.Nodes.{node}
-use Rattle.work_columns.specs.Columns.{Put}
 use Rattle.work_columns.specs.Layout.{Alike, Up}
 
 -- a pixel that has a node
 abbrev pub Seen : ℕ → (ℕ → ℕ) → ℕ → Type 0
 Seen n own p = (p < n) × (own p < n)
 
--- a pixel that is not seen holds n plus its grey where its node will stand
+-- a pixel that is not seen holds n plus its level where its node will stand
 abbrev pub Fresh : ℕ → (ℕ → ℕ) → (ℕ → ℕ) → Type 0
 Fresh n f own = (p : ℕ) → p < n → n ≤ own p → own p ≡ n + f p
 
@@ -81,26 +80,6 @@ pub record Next (cnt : ℕ → ℕ) (l u : ℕ) : Type 0 where
   pub live : (j : ℕ) → u ≡ j + 1 → 0 < cnt j
   pub between : (j : ℕ) → u ≤ j → j < l → cnt j ≡ 0
 
--- below L levels the greatest open one is u less one, and each open level has its next
-pub record Chain (L : ℕ) (cnt next : ℕ → ℕ) (u : ℕ) : Type 0 where
-  pub tip : Next cnt L u
-  pub links : (l : ℕ) → l < L → 0 < cnt l → Next cnt l (next l)
-
--- next′ is next with m between the open level `above` and its next
-pub record Inserted (L : ℕ) (cnt next next′ : ℕ → ℕ) (m : ℕ) : Type 0 where
-  pub above : ℕ
-  pub inside : above < L
-  pub higher : m < above
-  pub live : 0 < cnt above
-  pub gap : next above ≤ m
-  pub here : next′ m ≡ next above
-  pub linked : next′ above ≡ m + 1
-  pub others : (j : ℕ) → j < L → (j ≡ m → ⊥) → (j ≡ above → ⊥) → next′ j ≡ next j
-
--- next′ is next with m in its place, on the top of the chain or in it
-abbrev pub Linked : ℕ → (ℕ → ℕ) → (ℕ → ℕ) → (ℕ → ℕ) → ℕ → ℕ → Type 0
-Linked L cnt next next′ m u = ((u ≤ m) × Put L next next′ m u) ⊎ Inserted L cnt next next′ m
-
 -- u′ is the lightest open level plus one when m is open too
 abbrev pub Raised : ℕ → ℕ → ℕ → Type 0
 Raised m u u′ = ((u ≤ m) × (u′ ≡ m + 1)) ⊎ ((m < u) × (u′ ≡ u))
@@ -129,19 +108,20 @@ pub record Stacks (n L : ℕ) (f own stk start top : ℕ → ℕ) (c : ℕ) : Ty
 
 -- ---- the whole
 
--- the columns by level: count, name, top and start of its stack, next lower open level; u: the lightest open level plus one; k: the number of
--- nodes; c: the current pixel, n where there is none; lab is known to the proof alone
-pub record Mach (n : ℕ) (near : ℕ → ℕ → Bool) (f : ℕ → ℕ) (L : ℕ) (own stk size parent cnt name top start next : ℕ → ℕ) (u k c : ℕ) : Type 0 where
+-- the columns by level: count, name, top and start of its stack; u: the lightest open level plus one; k: the number of nodes; c: the current pixel, n
+-- where there is none; lab is known to the proof alone
+pub record Mach (n : ℕ) (near : ℕ → ℕ → Bool) (f : ℕ → ℕ) (L : ℕ) (own stk size parent cnt name top start : ℕ → ℕ) (u k c : ℕ) : Type 0 where
   pub greys-below : (p : ℕ) → p < n → f p < L
   pub lab : ℕ → ℕ
   pub labels : Labels n near f (Todo n f stk start top c) own lab u
   pub counts : Counts n near f L own lab cnt
   pub names : Names n near f L own lab cnt name k
   pub closed : ClosedNodes n near f own lab size parent
-  pub chain : Chain L cnt next u
+  pub tip : Next cnt L u
   pub stacks : Stacks n L f own stk start top c
 
--- what is left to do, as a number that falls with each step: 3 for each pixel not seen, 1 for each entry of the stacks and 1 for each open level
+-- what is left to do, as a number that falls with each step: 3 for each pixel not seen, 1 for each entry of the stacks and 1 for each level that is open
+-- by the names
 unfoldable pub work : ℕ → ℕ → (ℕ → ℕ) → (ℕ → ℕ) → (ℕ → ℕ) → (ℕ → ℕ) → ℕ
-work n L own cnt top start =
-    3 * (n - area n (λ (r : ℕ). ltb (own r) n)) + (sum L (λ (m : ℕ). top m - start m) + area L (λ (l : ℕ). ltb 0 (cnt l)))
+work n L own name top start =
+    3 * (n - area n (λ (r : ℕ). ltb (own r) n)) + (sum L (λ (m : ℕ). top m - start m) + area L (λ (l : ℕ). ltb 0 (name l)))

@@ -11,7 +11,7 @@ use Rattle.meaning.specs.Cut.{darkest}
 use Rattle.meaning.specs.Nodes.{areaOf, holds, levelOf, own, parent}
 use Rattle.meaning.specs.Opening.{Attribute, attribute}
 use Rattle.meaning.specs.Paths.{Grid}
-use Rattle.meaning.specs.Plate.{greatestGrey, grey}
+use Rattle.meaning.specs.Plate.{grey}
 use Rattle.meaning.specs.Sets.{elem, nth}
 use Rattle.theory_lists.proofs.Lists.{distinct-area}
 use Rattle.theory_lists.proofs.Sets.{area-le}
@@ -75,7 +75,7 @@ module _ {g : Shape} {f w : List ℕ} {count : ℕ} (t : Tree g f w count) where
 
   -- ---- levels
 
-  pub level-low : (i : ℕ) → i < count → col LEVEL n w i ≤ greatestGrey
+  pub level-low : (i : ℕ) → i < count → col LEVEL n w i ≤ g .greatest
   level-low i l =
       let inside = nth-inside tree-grid tree-nodes i (omega (arith, t .nodes)) in
       omega (arith, t .level-is i l, t .plate .greys (nth xs i) (omega (arith, t .pixels, inside)))

@@ -17,7 +17,7 @@ abbrev pub nodesIn : Shape → List ℕ → List ℕ
 nodesIn g f = nodesOf (g .connectivity) (g .width) f
 
 pub record Tree (g : Shape) (f w : List ℕ) (count : ℕ) : Type 0 where
-  pub plate : Plate (g .connectivity) (g .width) (g .height) f
+  pub plate : Plate (g .connectivity) (g .width) (g .height) (g .greatest) f
   pub pixels : length f ≡ g .pixels
   pub room : Room w (g .pixels)
   pub greys : col GREY (g .pixels) w ≡ grey f

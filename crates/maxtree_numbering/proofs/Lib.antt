@@ -1,5 +1,6 @@
 -- Laws of numbering.
 pub mod Places
+pub mod Marks
 pub mod Flooding
 pub mod Passes
 pub mod Stages

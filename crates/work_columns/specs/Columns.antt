@@ -3,7 +3,7 @@
 use mathlib.Core.Path.{_≡_}
 use mathlib.Core.List.{List}
 use Prim.Native.Nat.{ℕ, _+_, _*_, _≤_, _<_}
-use lib.Dec.{ltb}
+use lib.Dec.{eqb, ltb}
 use lib.ListN.{length, getD, drop}
 use Rattle.meaning.specs.Plate.{maxPixels}
 use Rattle.meaning.specs.Sets.{pick}
@@ -37,3 +37,19 @@ pub record Stored (w w′ : List ℕ) (n c i v : ℕ) : Type 0 where
   pub frame : Frame n w w′
   pub put : Put n (col c n w) (col c n w′) i v
   pub off : (d : ℕ) → d < 8 → (d ≡ c → ⊥) → col d n w′ ≡ col d n w
+
+-- ---- two columns side by side
+
+-- the entry k, 0 or 1, of pair i: the n pairs stand where the columns 5 and 6 do
+unfoldable pub pairAt : ℕ → ℕ → List ℕ → ℕ → ℕ
+pairAt k n w i = pick (ltb i n) (getD w (5 * n + (2 * i + k)) 0) 0
+
+-- column c where the columns 5 and 6 are pairs: 6 the first entries, 5 the second
+abbrev pub cell : ℕ → ℕ → List ℕ → ℕ → ℕ
+cell c n w = pick (eqb c 5) (pairAt 1 n w) (pick (eqb c 6) (pairAt 0 n w) (col c n w))
+
+-- w′ is w with v at entry i of column c, in that reading
+pub record CellStored (w w′ : List ℕ) (n c i v : ℕ) : Type 0 where
+  pub frame : Frame n w w′
+  pub put : Put n (cell c n w) (cell c n w′) i v
+  pub off : (d : ℕ) → d < 8 → (d ≡ c → ⊥) → cell d n w′ ≡ cell d n w

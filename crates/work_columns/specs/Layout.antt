@@ -3,26 +3,34 @@ use mathlib.Core.Path.{_≡_}
 use mathlib.Core.Logic.{_⊎_}
 use mathlib.Core.Bool.{Bool, true}
 use mathlib.Core.List.{List}
-use Prim.Native.Nat.{ℕ, _*_, _≤_, _<_}
+use Prim.Native.Nat.{ℕ, _*_, _%_, _≤_, _<_}
 use Rattle.meaning.specs.Sets.{area, has, table}
 use Rattle.meaning.specs.Paths.{Joined}
-use Rattle.meaning.specs.Plate.{touch, greatestGrey, gridFits, connectivityFits}
+use Rattle.meaning.specs.Plate.{touch, gridFits, greatestFits, connectivityFits}
 use Rattle.meaning.specs.Opening.{lighter}
 use Rattle.meaning.specs.Nodes.{node}
 use Rattle.work_columns.specs.Columns.{col, Room, Frame}
+use Rattle.work_columns.specs.declared.PixelGrid.{PixelGrid}
 use Rattle.work_columns.specs.declared.Shape.{Shape}
 
--- the shape of a plate of n pixels, width w, height h, connectivity k
-abbrev pub shapeOf : (n w h k : ℕ) → Shape
-shapeOf n w h k = record { pixels = n; width = w; height = h; connectivity = k }
+-- the shape of a plate of n pixels, width w, height h, greatest grey M, connectivity k
+abbrev pub shapeOf : (n w h M k : ℕ) → Shape
+shapeOf n w h M k = record { pixels = n; width = w; height = h; greatest = M; connectivity = k }
 
--- the pixels of a plate of that shape that touch
+-- its grid
+abbrev pub gridOf : Shape → PixelGrid
+gridOf g = record { pixels = g .pixels; width = g .width; height = g .height; connectivity = g .connectivity }
+
+-- the pixels of a plate of that shape that touch, and those of a grid
 abbrev pub touchIn : Shape → ℕ → ℕ → Bool
 touchIn g = touch (g .connectivity) (g .width)
 
+abbrev pub touchOn : PixelGrid → ℕ → ℕ → Bool
+touchOn g = touch (g .connectivity) (g .width)
+
 -- ---- the columns
 
--- by pixel: its grey; its node (while flooding, n plus its grey where it has none yet)
+-- by pixel: its grey; its node (while flooding, n plus its level where it has none yet)
 abbrev pub GREY : ℕ
 GREY = 0
 
@@ -46,15 +54,26 @@ FLOODPARENT = 3
 abbrev pub FLOODAREA : ℕ
 FLOODAREA = 4
 
--- by node in the order of flooding: its anchor; its number, in the place of its area, which is not read again
-abbrev pub FIRST : ℕ
-FIRST = 6
+-- while flooding, by level: the node of an open level plus one, 0 where the level is not open; the top and the start of its stack
+abbrev pub NAME : ℕ
+NAME = 5
 
+abbrev pub TOP : ℕ
+TOP = 6
+
+abbrev pub START : ℕ
+START = 7
+
+-- when numbering, by level: the number that its next node gets
+abbrev pub PLACE : ℕ
+PLACE = 6
+
+-- by node in the order of flooding: its number, in the place of its area, which is not read again
 abbrev pub NUMBER : ℕ
 NUMBER = 4
 
 -- by node: its parent (until the parents are numbered, by its number in the order of flooding), its area; for an operation, what is held against the
--- limit, its attribute, in the place of the anchor in the order of flooding, and a free column
+-- limit, its attribute, and a free column
 abbrev pub PARENT : ℕ
 PARENT = 5
 
@@ -69,8 +88,13 @@ VALUE = 4
 
 -- ---- the greys are copied in
 
-abbrev pub Greys : ℕ → List ℕ → Type 0
-Greys n w = (p : ℕ) → p < n → col GREY n w p ≤ greatestGrey
+-- none is above M
+abbrev pub Greys : ℕ → ℕ → List ℕ → Type 0
+Greys n M w = (p : ℕ) → p < n → col GREY n w p ≤ M
+
+-- while the tree is built, a pixel's level is the low half of its entry: its grey, or, where its grey stands in the high half, the grey's rank
+unfoldable pub levelIn : ℕ → List ℕ → ℕ → ℕ
+levelIn n w p = col GREY n w p % 65536
 
 -- as a plate
 abbrev pub greysIn : ℕ → List ℕ → List ℕ
@@ -99,19 +123,30 @@ pub record Flooded (n : ℕ) (near : ℕ → ℕ → Bool) (f own area-of parent
   pub area-is : (p : ℕ) → p < n → area-of (own p) ≡ area n (has (node n near f p))
   pub parent-is : (p : ℕ) → p < n → Up n near f own p (parent-of (own p)) ⊎ ((parent-of (own p) ≡ own p) × ((r : ℕ) → r < n → f p ≤ f r))
 
-abbrev pub FloodedColumns : Shape → List ℕ → Type 0
+abbrev pub FloodedColumns : PixelGrid → List ℕ → Type 0
 FloodedColumns g w =
-    Flooded (g .pixels) (touchIn g) (col GREY (g .pixels) w) (col OWN (g .pixels) w) (col FLOODAREA (g .pixels) w) (col FLOODPARENT (g .pixels) w)
+    Flooded (g .pixels) (touchOn g) (levelIn (g .pixels) w) (col OWN (g .pixels) w) (col FLOODAREA (g .pixels) w) (col FLOODPARENT (g .pixels) w)
 
--- what flooding asks, and what it leaves
-pub record Buildable (g : Shape) (w : List ℕ) : Type 0 where
+-- what flooding asks, and what it leaves: the levels are below `levels`, so that a column has a place for each
+pub record Floodable (g : PixelGrid) (levels : ℕ) (w : List ℕ) : Type 0 where
   pub room : Room w (g .pixels)
   pub kind : connectivityFits (g .connectivity) ≡ true
   pub sizes : gridFits (g .width) (g .height) ≡ true
   pub product : g .pixels ≡ g .width * g .height
-  pub greys : Greys (g .pixels) w
+  pub below : (p : ℕ) → p < g .pixels → levelIn (g .pixels) w p < levels
+  pub few : levels ≤ g .pixels
+  pub small : levels ≤ 65536
 
-pub record FloodBuilt (g : Shape) (w w′ : List ℕ) : Type 0 where
+pub record FloodBuilt (g : PixelGrid) (w w′ : List ℕ) : Type 0 where
   pub frame : Frame (g .pixels) w w′
   pub same : col GREY (g .pixels) w′ ≡ col GREY (g .pixels) w
   pub flooded : FloodedColumns g w′
+
+-- what building a tree asks
+pub record Buildable (g : Shape) (w : List ℕ) : Type 0 where
+  pub room : Room w (g .pixels)
+  pub kind : connectivityFits (g .connectivity) ≡ true
+  pub sizes : gridFits (g .width) (g .height) ≡ true
+  pub range : greatestFits (g .greatest) ≡ true
+  pub product : g .pixels ≡ g .width * g .height
+  pub greys : Greys (g .pixels) (g .greatest) w

@@ -20,7 +20,7 @@ same-length : tie.Need-same-length
 same-length c = returns c .kept .frame .len
 
 same-length-2 : tie.Need-same-length-2
-same-length-2 c = returns c .kept .table .len
+same-length-2 c = returns c .kept .set-length
 
 upper-left-requires : tie.Need-upper-left-requires
 upper-left-requires c κs =
@@ -41,7 +41,7 @@ same-length-3 : tie.Need-same-length-3
 same-length-3 c = returns-2 c .kept .frame .len
 
 same-length-4 : tie.Need-same-length-4
-same-length-4 c = returns-2 c .kept .table .len
+same-length-4 c = returns-2 c .kept .set-length
 
 lower-requires : tie.Need-lower-requires
 lower-requires c κs =
@@ -66,7 +66,7 @@ same-length-5 : tie.Need-same-length-5
 same-length-5 c = returns-3 c .kept .frame .len
 
 same-length-6 : tie.Need-same-length-6
-same-length-6 c = returns-3 c .kept .table .len
+same-length-6 c = returns-3 c .kept .set-length
 
 lower-right-requires : tie.Need-lower-right-requires
 lower-right-requires c κs =
@@ -95,7 +95,7 @@ same-length-7 : tie.Need-same-length-7
 same-length-7 c = returns-4 c .kept .frame .len
 
 same-length-8 : tie.Need-same-length-8
-same-length-8 c = returns-4 c .kept .table .len
+same-length-8 c = returns-4 c .kept .set-length
 
 left-requires : tie.Need-left-requires
 left-requires c κs =
@@ -128,7 +128,7 @@ same-length-9 : tie.Need-same-length-9
 same-length-9 c = returns-5 c .kept .frame .len
 
 same-length-10 : tie.Need-same-length-10
-same-length-10 c = returns-5 c .kept .table .len
+same-length-10 c = returns-5 c .kept .set-length
 
 right-requires : tie.Need-right-requires
 right-requires c κs =
@@ -169,7 +169,7 @@ same-length-11 : tie.Need-same-length-11
 same-length-11 c = returns-6 c .kept .frame .len
 
 same-length-12 : tie.Need-same-length-12
-same-length-12 c = returns-6 c .kept .table .len
+same-length-12 c = returns-6 c .kept .set-length
 
 pub six-spec : {M : Type 1} → statement M
 six-spec =
