@@ -87,8 +87,9 @@ peers:
 	apt-get update
 	apt-get install --yes --no-install-recommends python3-skimage libinsighttoolkit5-dev g++
 
-# writes docs/BENCHMARKS.md and docs/benchmarks.svg
+# writes docs/BENCHMARKS.md and docs/benchmarks.svg; the engine on 16-bit greys is measured through an archive of its own
 bench: library
+	rt staticlib test_tree
 	cargo bench $(HOST) --bench peers -- --pixels $(BENCH_PIXELS) --peer-pixels $(PEER_PIXELS)
 
 # puts what `make` has built where others find it, and builds only what is missing

@@ -18,6 +18,11 @@ fn main() {
     println!("cargo:rustc-link-search=native={}", directory.display());
     println!("cargo:rustc-link-lib=static=livukoe");
     println!("cargo:rerun-if-changed={}", archive.display());
+    // the benchmarks alone link a second archive, `rt staticlib test_tree`
+    let second = directory.join("libtest_tree.a");
+    if second.is_file() {
+        println!("cargo:rerun-if-changed={}", second.display());
+    }
     println!("cargo:rerun-if-env-changed=LIVUKOE_LIB_DIR");
 }
 

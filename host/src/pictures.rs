@@ -1,8 +1,10 @@
 //! Generated plates, for the demonstration, the tests and the benchmarks. The same arguments give the same plate.
 
+mod fine;
 mod relief;
 
 use crate::Plate;
+pub use fine::{fine_picture, FINE_GREATEST, FINE_KINDS};
 pub use relief::specked_relief;
 
 /// The names of the pictures.

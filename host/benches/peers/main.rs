@@ -1,11 +1,13 @@
 //! The benchmarks: each operation, proved and in plain Rust, on six pictures of growing sizes, and area opening and the
-//! tree by ITK and scikit-image where they are installed. Writes docs/BENCHMARKS.md and docs/benchmarks.svg.
+//! tree by ITK and scikit-image where they are installed; then the engine on pictures of 16-bit greys. Writes
+//! docs/BENCHMARKS.md and docs/benchmarks.svg.
 //!
-//!     cargo bench --bench peers -- [--pixels N] [--peer-pixels N] [--out DIRECTORY]
+//!     cargo bench --bench peers -- [--pixels N] [--peer-pixels N] [--part operations|engine] [--out DIRECTORY]
 //!
-//! The numbers are the greatest sizes, for all and for the peers.
+//! The numbers are the greatest sizes, for all and for the peers. With one part only, the other stays as it was written.
 
 mod clock;
+mod engine;
 mod measure;
 mod memory;
 mod operations;
@@ -13,12 +15,16 @@ mod peers;
 mod plot;
 mod report;
 mod twin;
+mod twin_flood;
+mod twin_levels;
+mod twin_numbering;
+mod twin_ranks;
 mod twin_records;
 
 use std::fs;
 use std::path::{Path, PathBuf};
 
-use livukoe::pictures::{self, picture};
+use livukoe::pictures::{self, fine_picture, picture};
 use livukoe::Connectivity;
 
 use measure::Timing;
@@ -27,10 +33,17 @@ use peers::{PeerTiming, Peers};
 
 /// The widths of the square pictures, from 64 K to 16 M pixels.
 const WIDTHS: [u32; 5] = [256, 512, 1024, 2048, 4096];
+/// Those of 16-bit greys: the first has fewer pixels than greys.
+const FINE_WIDTHS: [u32; 4] = [128, 256, 1024, 4096];
+
+/// The parts of the report.
+const PARTS: [&str; 2] = ["operations", "engine"];
 
 struct Arguments {
     pixels: usize,
     peer_pixels: usize,
+    /// One of the two parts; none where both are asked for.
+    part: Option<String>,
     out: PathBuf,
 }
 
@@ -39,6 +52,7 @@ impl Arguments {
         let mut arguments = Arguments {
             pixels: livukoe::MAX_PIXELS,
             peer_pixels: 1 << 22,
+            part: None,
             out: PathBuf::from(concat!(env!("CARGO_MANIFEST_DIR"), "/../docs")),
         };
         let mut words = std::env::args().skip(1).filter(|word| word != "--bench");
@@ -49,22 +63,44 @@ impl Arguments {
                 "--peer-pixels" => {
                     arguments.peer_pixels = value.parse().expect("a number of pixels");
                 }
+                "--part" => {
+                    assert!(PARTS.contains(&value.as_str()), "there is no part {value}");
+                    arguments.part = Some(value);
+                }
                 "--out" => arguments.out = PathBuf::from(value),
                 _ => panic!("there is no option {name}"),
             }
         }
         arguments
     }
+
+    fn asks_for(&self, part: &str) -> bool {
+        self.part.as_deref().is_none_or(|asked| asked == part)
+    }
+
+    /// The widths whose squares are not above the greatest size.
+    fn widths(&self, widths: &'static [u32]) -> impl Iterator<Item = u32> + '_ {
+        let widths = widths.iter().copied();
+        widths.filter(|width| (width * width) as usize <= self.pixels)
+    }
 }
 
 fn main() {
     let arguments = Arguments::read();
+    if arguments.asks_for("operations") {
+        measure_operations(&arguments);
+    }
+    if arguments.asks_for("engine") {
+        measure_engine(&arguments);
+    }
+}
+
+fn measure_operations(arguments: &Arguments) {
     let peers = Peers::find();
     let mut timings: Vec<Timing> = Vec::new();
     let mut peer_timings: Vec<PeerTiming> = Vec::new();
     let mut memory: Vec<Memory> = Vec::new();
-    let widths = WIDTHS.into_iter();
-    for width in widths.filter(|width| (width * width) as usize <= arguments.pixels) {
+    for width in arguments.widths(&WIDTHS) {
         for kind in pictures::KINDS {
             let plate = picture(kind, width, width);
             for connectivity in Connectivity::ALL {
@@ -76,13 +112,31 @@ fn main() {
             eprintln!("{kind}, {width} x {width}: done");
         }
         memory.push(memory::measure((width * width) as usize));
-        write(&arguments.out, &timings, &peer_timings, &memory); // each size, so that a run that is cut short leaves something
+        // each size, so that a run that is cut short leaves something
+        let text = report::operations(&timings, &peer_timings, &memory);
+        write(&arguments.out, Some(&text), None);
+        let picture = plot::svg(&timings, &peer_timings);
+        fs::write(arguments.out.join("benchmarks.svg"), picture).expect("the plot is written");
     }
 }
 
-fn write(folder: &Path, timings: &[Timing], peer_timings: &[PeerTiming], memory: &[Memory]) {
-    let text = report::text(timings, peer_timings, memory);
-    fs::write(folder.join("BENCHMARKS.md"), text).expect("the report is written");
-    let picture = plot::svg(timings, peer_timings);
-    fs::write(folder.join("benchmarks.svg"), picture).expect("the plot is written");
+fn measure_engine(arguments: &Arguments) {
+    let mut timings: Vec<Timing> = Vec::new();
+    for width in arguments.widths(&FINE_WIDTHS) {
+        for kind in pictures::FINE_KINDS {
+            let greys = fine_picture(kind, width as usize, width as usize);
+            for connectivity in engine::CONNECTIVITIES {
+                timings.push(engine::measure(kind, &greys, width, connectivity));
+            }
+            eprintln!("{kind}, 16-bit greys, {width} x {width}: done");
+        }
+        write(&arguments.out, None, Some(&report::engine(&timings)));
+    }
+}
+
+/// Writes the parts of the report that are given; the others stay.
+fn write(folder: &Path, operations: Option<&str>, engine: Option<&str>) {
+    let file = folder.join("BENCHMARKS.md");
+    let old = fs::read_to_string(&file).unwrap_or_default(); // there may be none yet
+    fs::write(file, report::renewed(&old, operations, engine)).expect("the report is written");
 }

@@ -31,6 +31,7 @@ fn runs(pixels: usize) -> usize {
 /// Measures all operations on a plate.
 pub fn all(kind: &'static str, plate: &Plate, connectivity: Connectivity) -> Vec<Timing> {
     let mut bench = Bench::new(plate, connectivity);
+    let pixels = plate.greys().len();
     let operations = OPERATIONS.into_iter();
     operations
         .filter(|operation| measured(operation, connectivity))
@@ -38,8 +39,13 @@ pub fn all(kind: &'static str, plate: &Plate, connectivity: Connectivity) -> Vec
             operation,
             kind,
             connectivity,
-            pixels: plate.greys().len(),
-            seconds: best_times(&mut bench, operation, runs(plate.greys().len())),
+            pixels,
+            seconds: best_times(
+                &mut bench,
+                pixels,
+                |bench, worker| bench.run(operation, worker),
+                |bench| &bench.buffers,
+            ),
         })
         .collect()
 }
@@ -48,20 +54,25 @@ pub fn all(kind: &'static str, plate: &Plate, connectivity: Connectivity) -> Vec
 const SHORT: f64 = 0.002;
 
 /// The workers in turn, so that what disturbs one disturbs all; what they write must be the same.
-fn best_times(bench: &mut Bench, operation: &str, runs: usize) -> [f64; 3] {
-    let first = clock::seconds(|| bench.run(operation, Worker::Proved));
+pub fn best_times<B, A: Clone + PartialEq>(
+    bench: &mut B,
+    pixels: usize,
+    run: impl Fn(&mut B, Worker),
+    answer: impl Fn(&B) -> &A,
+) -> [f64; 3] {
+    let first = clock::seconds(|| run(bench, Worker::Proved));
     let repetitions = (SHORT / first).ceil().clamp(1.0, 1e4);
-    let answer = bench.buffers.clone();
+    let proved = answer(bench).clone();
     let mut best = [f64::MAX; 3];
-    for _ in 0..runs {
+    for _ in 0..runs(pixels) {
         for (worker, best) in WORKERS.into_iter().zip(&mut best) {
             let seconds = clock::seconds(|| {
                 for _ in 0..repetitions as usize {
-                    bench.run(operation, worker);
+                    run(bench, worker);
                 }
             });
             *best = best.min(seconds / repetitions);
-            assert!(answer == bench.buffers, "{operation}: the answers differ");
+            assert!(proved == *answer(bench), "the answers differ");
         }
     }
     best

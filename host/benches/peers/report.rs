@@ -4,9 +4,10 @@ use std::fmt::Write;
 use std::fs;
 use std::process::Command;
 
-use livukoe::pictures::KINDS;
+use livukoe::pictures::{FINE_KINDS, KINDS};
 use livukoe::Connectivity;
 
+use crate::engine::CONNECTIVITIES;
 use crate::measure::Timing;
 use crate::memory::Memory;
 use crate::operations::{CLEAN_LIGHT, LIMIT, OPERATIONS};
@@ -24,8 +25,42 @@ for large pages.
 ![time against size](benchmarks.svg)
 ";
 
-/// The report.
-pub fn text(timings: &[Timing], peers: &[PeerTiming], memory: &[Memory]) -> String {
+/// The heading of the part on the engine, which is the last.
+const ENGINE: &str = "\n## The engine on 16-bit greys\n";
+
+/// What is ahead of its tables.
+const ENGINE_FRONT: &str = "
+The component tree alone, as it stands in the work space, of pictures whose greatest grey is 65,535: the engine that all
+operations on plates share, through `test_tree`, a proved function for the benchmarks only. The copy of the greys is part
+of each time. *Ramp* runs through all greys row by row, *relief* is the map of the demonstration without its specks and with
+finer greys, *serpentine* a corridor that becomes lighter along its way, *comb* has teeth that darken downwards. At 16 K
+pixels, fewer than the greys, each grey gets its rank first.
+
+";
+
+/// The report with one of its parts, or both, made new.
+pub fn renewed(old: &str, operations: Option<&str>, engine: Option<&str>) -> String {
+    let (front, back) = old.split_at(old.find(ENGINE).unwrap_or(old.len()));
+    operations.unwrap_or(front).to_owned() + engine.unwrap_or(back)
+}
+
+/// The part on the engine.
+pub fn engine(timings: &[Timing]) -> String {
+    let mut text = format!("{ENGINE}{ENGINE_FRONT}{}", machine());
+    for connectivity in CONNECTIVITIES {
+        let of_kind = |timing: &&Timing| timing.connectivity == connectivity;
+        let rows: Vec<&Timing> = timings.iter().filter(of_kind).collect();
+        let _ = write!(
+            text,
+            "\n### connectivity {connectivity}: nanoseconds a pixel\n\n{}",
+            table(&rows, &FINE_KINDS)
+        );
+    }
+    text
+}
+
+/// The part on the operations.
+pub fn operations(timings: &[Timing], peers: &[PeerTiming], memory: &[Memory]) -> String {
     let mut text = FRONT.to_owned();
     let _ = write!(text, "\n## Machine\n\n{}", machine()); // a string takes every write
     let _ = write!(text, "\n## Against peers\n\n{}", peer_table(timings, peers));
@@ -41,7 +76,7 @@ pub fn text(timings: &[Timing], peers: &[PeerTiming], memory: &[Memory]) -> Stri
                 let _ = write!(
                     text,
                     "\n## {title}: nanoseconds a pixel\n\n{}",
-                    table(&rows)
+                    table(&rows, &KINDS)
                 );
             }
         }
@@ -116,7 +151,7 @@ fn row(name: &str, times: &[f64]) -> String {
 }
 
 /// Nanoseconds a pixel by size, their growth, and the ratios to plain Rust over the sizes.
-fn table(timings: &[&Timing]) -> String {
+fn table(timings: &[&Timing], kinds: &[&str]) -> String {
     let mut sizes: Vec<usize> = timings.iter().map(|timing| timing.pixels).collect();
     sizes.sort_unstable();
     sizes.dedup();
@@ -127,7 +162,7 @@ fn table(timings: &[&Timing]) -> String {
     text += " growth | / plain Rust | / unchecked |\n|---|";
     text += &"---|".repeat(sizes.len() + 3);
     text += "\n";
-    for kind in KINDS {
+    for &kind in kinds {
         let of_kind: Vec<&&Timing> = timings
             .iter()
             .filter(|timing| timing.kind == kind)

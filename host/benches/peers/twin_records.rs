@@ -4,7 +4,9 @@
 
 use livukoe::lent::Image;
 
-use crate::twin::{build, clear, cut_values, plate_tree, put_attributes, write_values, Columns};
+use crate::twin::{
+    build, clear, cut_values, plate_tree, put_attributes, write_values, Columns, GREATEST,
+};
 
 /// What the first fields say.
 #[derive(Clone, Copy)]
@@ -130,11 +132,11 @@ fn parse<const CHECKED: bool>(bytes: &[u8], work: &mut [u32]) -> Head {
     let count = take_field(bytes, at, 1, pixels as u32) as usize;
     let mut columns = Columns::<CHECKED>::of(work, pixels);
     let levels = &mut columns.flood_parent;
-    levels[0] = take_field(bytes, at, 0, 255);
+    levels[0] = take_field(bytes, at, 0, GREATEST);
     take_field(bytes, at, 1, pixels as u32);
     for i in 1..count {
         let below = levels[i - take_field(bytes, at, 1, i as u32) as usize];
-        levels[i] = below + take_field(bytes, at, 1, 255 - below);
+        levels[i] = below + take_field(bytes, at, 1, GREATEST - below);
         take_field(bytes, at, 1, pixels as u32);
     }
     for grey in columns.grey.0.iter_mut() {
@@ -147,7 +149,7 @@ fn parse<const CHECKED: bool>(bytes: &[u8], work: &mut [u32]) -> Head {
 /// Reads a record; the tree of its plate stands in the work space, with so many nodes.
 fn read_tree<const CHECKED: bool>(bytes: &[u8], work: &mut [u32]) -> (Head, usize) {
     let head = parse::<CHECKED>(bytes, work);
-    let count = build::<CHECKED>(work, head.width, head.height, head.connectivity);
+    let count = build::<CHECKED>(work, head.width, head.height, GREATEST, head.connectivity);
     let mut at = 0;
     let same = all_fields::<CHECKED>(work, head, count, |field| {
         let next = same_field(bytes, at, field);
@@ -187,7 +189,7 @@ pub fn size_list<const CHECKED: bool>(
     let columns = Columns::<CHECKED>::of(work, head.pixels());
     counts[..places].fill(0);
     losses[..places].fill(0);
-    let attribute = |i| columns.first[i] as usize;
+    let attribute = |i| columns.attribute[i] as usize;
     for i in (1..count).filter(|&i| attribute(i) <= places) {
         counts[attribute(i) - 1] += 1;
     }

@@ -50,7 +50,7 @@ fn put_speck(greys: &mut [f32], columns: usize, (x, y): (f32, f32), radius: f32,
 }
 
 /// The shaded ground, lit from the upper left, as greys from 0 to 255.
-fn relief(columns: usize, rows: usize) -> Vec<f32> {
+pub(super) fn relief(columns: usize, rows: usize) -> Vec<f32> {
     let scale = 1.0 / columns as f32;
     let at = |x: f32, y: f32| ground(x * scale, y * scale);
     let grey = |p: usize| {

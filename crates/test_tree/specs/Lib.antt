@@ -1,0 +1,2 @@
+-- What the tree of a plate of 16-bit greys answers.
+pub mod Answer
