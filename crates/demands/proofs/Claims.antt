@@ -32,7 +32,7 @@ over-nth xs out i l = List·getD-append xs (drop (length xs) out) 0 i l
 over-table : (m : ℕ) (g : ℕ → ℕ) (out : List ℕ) (i : ℕ) → i < m → nth (over (table m g) out) i ≡ g i
 over-table m g out i l = over-nth (table m g) out i (omega (arith, length-table m g)) ∙ getD-table m g i 0 l
 
-module _ {k w h : ℕ} {f : List ℕ} (pl : Plate k w h f) where
+module _ {k w h M : ℕ} {f : List ℕ} (pl : Plate k w h M f) where
   abbrev n : ℕ
   n = length f
 

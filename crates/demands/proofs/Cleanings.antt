@@ -5,7 +5,7 @@ use Prim.Native.Nat.{ℕ, _≤_, max}
 use native.Mathlib.Omega.{arith}
 use lib.ListN.{length}
 use Rattle.meaning.specs.Opening.{cleaned}
-use Rattle.meaning.specs.Plate.{NowhereLighter, Plate}
+use Rattle.meaning.specs.Plate.{NowhereLighter, Plate, greatestGrey}
 use Rattle.theorems.proofs.Plates.{cleaned-plate}
 use Rattle.theorems.proofs.Theorems.{cleaned-grows, cleaned-twice-is-once}
 use Rattle.plate_refusals.proofs.Refusals.{cleanable-none}
@@ -15,26 +15,26 @@ use Rattle.demands.proofs.Demand2.{left-cleaned, limit-fits}
 -- ---- one cleaning
 
 module _ {side k w h limit : ℕ} {f g : List ℕ} (l : Leaves side k w h limit f g) where
-  abbrev plate : Plate k w h f
+  abbrev plate : Plate k w h greatestGrey f
   plate = l .call .accepted refl
 
   fits : limit ≤ length f
   fits = limit-fits side limit (l .call) refl
 
   -- what is left is the plate cleaned
-  is-cleaned : g ≡ cleaned side k w h limit f
+  is-cleaned : g ≡ cleaned side k w h greatestGrey limit f
   is-cleaned = l .left ∙ left-cleaned side limit (l .call) refl
 
-  left-plate : Plate k w h g
+  left-plate : Plate k w h greatestGrey g
   left-plate = rw is-cleaned (cleaned-plate plate side limit fits)
 
 -- ---- two cleanings
 
 module _ (side k w h : ℕ) where
-  greater : (a b : ℕ) (f g g′ : List ℕ) → Leaves side k w h a f g → Leaves side k w h b g g′ → g′ ≡ cleaned side k w h (max a b) f
+  greater : (a b : ℕ) (f g g′ : List ℕ) → Leaves side k w h a f g → Leaves side k w h b g g′ → g′ ≡ cleaned side k w h greatestGrey (max a b) f
   greater a b f g g′ la lb =
       is-cleaned lb
-      ∙ ap (cleaned side k w h b) (is-cleaned la)
+      ∙ ap (cleaned side k w h greatestGrey b) (is-cleaned la)
       ∙ cleaned-twice-is-once (plate la) side a b (fits la) (omega (arith, fits lb, plate la .long, plate lb .long))
 
   order : (limit : ℕ) (f g f′ g′ : List ℕ) → NowhereLighter f g → Leaves side k w h limit f f′ → Leaves side k w h limit g g′ → NowhereLighter f′ g′
@@ -56,6 +56,6 @@ cleanings = record {
   leaves-plate = λ side k w h limit f g l. left-plate l;
   greater-limit = λ side k w h a b f g g′ once la lb lm. greater side k w h a b f g g′ la lb ∙ sym (is-cleaned lm);
   same-limit = λ side k w h limit f g g′ l l′.
-      greater side k w h limit limit f g g′ l l′ ∙ ap (λ (m : ℕ). cleaned side k w h m f) (omega arith) ∙ sym (is-cleaned l);
+      greater side k w h limit limit f g g′ l l′ ∙ ap (λ (m : ℕ). cleaned side k w h greatestGrey m f) (omega arith) ∙ sym (is-cleaned l);
   order-kept = order;
 }

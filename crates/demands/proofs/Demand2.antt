@@ -7,13 +7,17 @@ use native.Mathlib.Omega.{arith}
 use lib.ListN.{length, take}
 use Rattle.meaning.specs.Answers.{cleanRefusal, filterRefusal}
 use Rattle.meaning.specs.Opening.{cleaned, closed, darkSide, lightSide, opened, sideFits}
-use Rattle.meaning.specs.Plate.{negative}
+use Rattle.meaning.specs.Plate.{greatestGrey, negative}
 use Rattle.theorems.proofs.Plates.{cleaned-plate, closed-length, closed-negative, negative-length, negative-twice, opened-length, opened-plate}
 use Rattle.theorems.proofs.Theorems.{closed-is-least, opened-is-greatest}
 use Rattle.plate_refusals.proofs.Refusals.{Cleanable, clean-none}
 use Rattle.plate_filter.specs.Operations.{Cleaned}
 use Rattle.demands.specs.Demand2.{CleaningClaim, HoldsCleaned, HoldsClosed, HoldsOpened, Negatives}
 use Rattle.demands.proofs.Claims.{over-nth, over-take}
+
+-- the greatest grey of what `clean` takes
+abbrev M : ℕ
+M = greatestGrey
 
 -- ---- one plate, cleaned on a side
 
@@ -26,16 +30,16 @@ module _ (side limit : ℕ) {k w h : ℕ} {f out out′ work work′ : List ℕ}
   limit-fits = let s = cleanable .sizes in omega (arith, s .limit-high, s .taken .long)
 
   -- the plate cleaned stands in front of the excess
-  pub left-cleaned : take (w * h) out′ ≡ cleaned side k w h limit f
+  pub left-cleaned : take (w * h) out′ ≡ cleaned side k w h M limit f
   left-cleaned =
-      rw (a .output, z) (over-take (cleaned side k w h limit f) out (w * h) (cleaned-plate (a .accepted z) side limit limit-fits .long))
+      rw (a .output, z) (over-take (cleaned side k w h M limit f) out (w * h) (cleaned-plate (a .accepted z) side limit limit-fits .long))
 
 -- the answers of the two sides
-light-opens : (k w h limit : ℕ) (f : List ℕ) → cleaned lightSide k w h limit f ≡ opened k w h limit f
+light-opens : (k w h limit : ℕ) (f : List ℕ) → cleaned lightSide k w h M limit f ≡ opened k w h limit f
 unfolding cleaned
 light-opens k w h limit f = refl
 
-dark-closes : (k w h limit : ℕ) (f : List ℕ) → cleaned darkSide k w h limit f ≡ closed k w h limit f
+dark-closes : (k w h limit : ℕ) (f : List ℕ) → cleaned darkSide k w h M limit f ≡ closed k w h M limit f
 unfolding cleaned
 dark-closes k w h limit f = refl
 
@@ -49,7 +53,7 @@ module _ (limit : ℕ) {k w h : ℕ} {f out out′ work work′ : List ℕ} {r :
   dark-holds : Cleaned darkSide k w h limit f out out′ work work′ r → r ≡ 0 → HoldsClosed k w h limit f out′
   dark-holds a z t p l =
       let plate = a .accepted z in
-      rw (a .output, z, dark-closes k w h limit f, over-nth (closed k w h limit f) out p (omega (arith, closed-length plate limit)))
+      rw (a .output, z, dark-closes k w h limit f, over-nth (closed k w h M limit f) out p (omega (arith, closed-length plate limit)))
       (closed-is-least plate limit t p (limit-fits darkSide limit a z) l)
 
   side-holds : (side : ℕ) → Cleaned side k w h limit f out out′ work work′ r → r ≡ 0 → (side ≡ lightSide) ⊎ (side ≡ darkSide)
@@ -60,26 +64,26 @@ module _ (limit : ℕ) {k w h : ℕ} {f out out′ work work′ : List ℕ} {r :
 -- ---- light on a plate f, dark on its negative
 
 module _ (limit : ℕ) {k w h : ℕ} {f out out′ work work′ lent lent′ space space′ : List ℕ} {r r′ : ℕ}
-    (a : Cleaned lightSide k w h limit f out out′ work work′ r) (b : Cleaned darkSide k w h limit (negative f) lent lent′ space space′ r′) where
+    (a : Cleaned lightSide k w h limit f out out′ work work′ r) (b : Cleaned darkSide k w h limit (negative M f) lent lent′ space space′ r′) where
   alike : length lent ≡ length out → length space ≡ length work → r′ ≡ r
   unfolding cleanRefusal filterRefusal sideFits
-  alike x y = b .number ∙ rw (x, y, negative-length f) (sym (a .number))
+  alike x y = b .number ∙ rw (x, y, negative-length M f) (sym (a .number))
 
   module _ (z : r ≡ 0) (z′ : r′ ≡ 0) where
     light-plate : take (w * h) out′ ≡ opened k w h limit f
     light-plate = left-cleaned lightSide limit a z ∙ light-opens k w h limit f
 
-    dark-plate : take (w * h) lent′ ≡ closed k w h limit (negative f)
-    dark-plate = left-cleaned darkSide limit b z′ ∙ dark-closes k w h limit (negative f)
+    dark-plate : take (w * h) lent′ ≡ closed k w h M limit (negative M f)
+    dark-plate = left-cleaned darkSide limit b z′ ∙ dark-closes k w h limit (negative M f)
 
     each-other : Negatives (take (w * h) out′) (take (w * h) lent′)
     each-other =
         let plate = a .accepted z in
-        let e : take (w * h) lent′ ≡ negative (take (w * h) out′) =
-        dark-plate ∙ closed-negative plate limit ∙ ap negative (sym light-plate) in
-        let back : take (w * h) out′ ≡ negative (negative (take (w * h) out′)) =
+        let e : take (w * h) lent′ ≡ negative M (take (w * h) out′) =
+        dark-plate ∙ closed-negative plate limit ∙ ap (negative M) (sym light-plate) in
+        let back : take (w * h) out′ ≡ negative M (negative M (take (w * h) out′)) =
         rw light-plate (sym (negative-twice (opened-plate plate limit (limit-fits lightSide limit a z)))) in
-        (e, back ∙ ap negative (sym e))
+        (e, back ∙ ap (negative M) (sym e))
 
 pub cleaning : CleaningClaim
 cleaning = record {

@@ -8,7 +8,7 @@ use Rattle.meaning.specs.Answers.{over, treeRefusal}
 use Rattle.meaning.specs.Cut.{counts, cut, cutAt, darkest, held, losses, total}
 use Rattle.meaning.specs.Nodes.{nodesOf}
 use Rattle.meaning.specs.Opening.{atLeast, attribute}
-use Rattle.meaning.specs.Plate.{Plate, grey, touch}
+use Rattle.meaning.specs.Plate.{Plate, greatestGrey, grey, touch}
 use Rattle.meaning.specs.Record.{recordOf}
 use Rattle.theory_lists.proofs.Lists.{length-table}
 use Rattle.record_parse.specs.Parse.{plate}
@@ -18,7 +18,7 @@ use Rattle.record.specs.Writing.{writeAnswer, writeOut, writeRefusal}
 use Rattle.demands.specs.Demand3.{CutClaim, Demand3, SizeClaim, cutHead, cutPlate, sizeCounts, sizeHead, sizeLosses, written}
 use Rattle.demands.proofs.Claims.{is-cut, is-list, over-take}
 
-module _ {k w h : ℕ} {f : List ℕ} (pl : Plate k w h f) where
+module _ {k w h : ℕ} {f : List ℕ} (pl : Plate k w h greatestGrey f) where
   abbrev bytes : List ℕ
   bytes = recordOf k w h f
 
@@ -96,7 +96,7 @@ module _ {k w h : ℕ} {f : List ℕ} (pl : Plate k w h f) where
       }
 
 -- for every accepted plate
-pub demand-3 : {k w h : ℕ} {f : List ℕ} → Plate k w h f → Demand3 k w h f
+pub demand-3 : {k w h : ℕ} {f : List ℕ} → Plate k w h greatestGrey f → Demand3 k w h f
 demand-3 {k} {w} {h} {f} pl = record {
   writing = writing-is pl;
   cutting = λ out work a b limit l m out′ work′ c d. rw (writing-is pl out work a b .1) (cut-claim pl limit l m out′ work′ c d);

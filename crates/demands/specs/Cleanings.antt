@@ -6,7 +6,7 @@ use mathlib.Core.List.{List}
 use Prim.Native.Nat.{ℕ, _*_, _≤_, max}
 use lib.ListN.{length, take}
 use Rattle.meaning.specs.Opening.{darkSide, lightSide}
-use Rattle.meaning.specs.Plate.{NowhereLighter, Plate}
+use Rattle.meaning.specs.Plate.{NowhereLighter, Plate, greatestGrey}
 use Rattle.plate_filter.specs.Operations.{Cleaned}
 
 -- `clean` was called on plate f, in whatever buffers, was not refused, and left plate g
@@ -21,10 +21,10 @@ pub record Leaves (side k w h limit : ℕ) (f g : List ℕ) : Type 0 where
 pub record CleaningsClaim : Type 0 where
   -- an accepted plate, either side, a limit from 1 to the pixels, an output and a work space long enough: `clean` does not refuse ..
   pub not-refused : (side k w h limit : ℕ) (f out out′ work work′ : List ℕ) (r : ℕ)
-      → Plate k w h f → (side ≡ lightSide) ⊎ (side ≡ darkSide) → 1 ≤ limit → limit ≤ w * h → w * h ≤ length out → 8 * (w * h) ≤ length work
+      → Plate k w h greatestGrey f → (side ≡ lightSide) ⊎ (side ≡ darkSide) → 1 ≤ limit → limit ≤ w * h → w * h ≤ length out → 8 * (w * h) ≤ length work
       → Cleaned side k w h limit f out out′ work work′ r → r ≡ 0
   -- .. and what it leaves is an accepted plate, so that it can be cleaned again
-  pub leaves-plate : (side k w h limit : ℕ) (f g : List ℕ) → Leaves side k w h limit f g → Plate k w h g
+  pub leaves-plate : (side k w h limit : ℕ) (f g : List ℕ) → Leaves side k w h limit f g → Plate k w h greatestGrey g
   -- cleaning at limit a and then at limit b leaves what one cleaning at the greater of the two leaves
   pub greater-limit : (side k w h a b : ℕ) (f g g′ once : List ℕ)
       → Leaves side k w h a f g → Leaves side k w h b g g′ → Leaves side k w h (max a b) f once → g′ ≡ once

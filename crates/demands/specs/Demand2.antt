@@ -19,7 +19,7 @@ HoldsOpened k w h limit f out = (t p : ℕ) → p < length f → Region (length 
 abbrev pub HoldsClosed : (k w h limit : ℕ) (f out : List ℕ) → Type 0
 HoldsClosed k w h limit f out =
     (t p : ℕ) → p < length f
-    → Region (length f) (touch k w) (onTrimEdge w h) (grey (negative f)) limit t p ↔ t ≤ greatestGrey - nth out p
+    → Region (length f) (touch k w) (onTrimEdge w h) (grey (negative greatestGrey f)) limit t p ↔ t ≤ greatestGrey - nth out p
 
 -- the one on the light side, the other on the dark side, and there is no third
 abbrev pub HoldsCleaned : (side k w h limit : ℕ) (f out : List ℕ) → Type 0
@@ -27,7 +27,7 @@ HoldsCleaned side k w h limit f out = ((side ≡ lightSide) × HoldsOpened k w h
 
 -- two plates are negatives of each other
 abbrev pub Negatives : (f g : List ℕ) → Type 0
-Negatives f g = (g ≡ negative f) × (f ≡ negative g)
+Negatives f g = (g ≡ negative greatestGrey f) × (f ≡ negative greatestGrey g)
 
 pub record CleaningClaim : Type 0 where
   -- what is not refused is cleaned
@@ -35,9 +35,9 @@ pub record CleaningClaim : Type 0 where
       → HoldsCleaned side k w h limit f out′
   -- at one limit and connectivity, light on a plate and dark on its negative are refused alike, in buffers of the same lengths ..
   pub refused-alike : (k w h limit : ℕ) (f out out′ work work′ lent lent′ space space′ : List ℕ) (r r′ : ℕ)
-      → Cleaned lightSide k w h limit f out out′ work work′ r → Cleaned darkSide k w h limit (negative f) lent lent′ space space′ r′
+      → Cleaned lightSide k w h limit f out out′ work work′ r → Cleaned darkSide k w h limit (negative greatestGrey f) lent lent′ space space′ r′
       → length lent ≡ length out → length space ≡ length work → r′ ≡ r
   -- .. and give plates that are negatives of each other
   pub negatives : (k w h limit : ℕ) (f out out′ work work′ lent lent′ space space′ : List ℕ) (r r′ : ℕ)
-      → Cleaned lightSide k w h limit f out out′ work work′ r → r ≡ 0 → Cleaned darkSide k w h limit (negative f) lent lent′ space space′ r′ → r′ ≡ 0
-      → Negatives (take (w * h) out′) (take (w * h) lent′)
+      → Cleaned lightSide k w h limit f out out′ work work′ r → r ≡ 0 → Cleaned darkSide k w h limit (negative greatestGrey f) lent lent′ space space′ r′
+      → r′ ≡ 0 → Negatives (take (w * h) out′) (take (w * h) lent′)

@@ -7,6 +7,7 @@ use Prim.Native.Nat.{ℕ, _-_, _*_, _≤_}
 use lib.ListN.{length, take}
 use Rattle.meaning.specs.Nodes.{nodesOf}
 use Rattle.meaning.specs.Cut.{total, darkest, held}
+use Rattle.meaning.specs.Plate.{greatestGrey}
 use Rattle.meaning.specs.Record.{recordOf}
 use Rattle.record_parse.specs.Parse.{readOf}
 use Rattle.record.specs.Writing.{writeAnswer, writeOut}
@@ -23,25 +24,26 @@ written k w h f out work = take (writeAnswer k w h f out work .length) (writeOut
 -- the plate that cutting these bytes at a limit returns, with the lent buffers
 unfoldable pub cutPlate : (w h : ℕ) (bytes : List ℕ) (limit : ℕ) (out work : List ℕ) → List ℕ
 unfolding readOf
-cutPlate w h bytes limit out work = take (w * h) (cutOut (readOf bytes (length work)) limit out)
+cutPlate w h bytes limit out work = take (w * h) (cutOut (readOf greatestGrey bytes (length work)) limit out)
 
 -- what cutting answers
 unfoldable pub cutHead : (bytes : List ℕ) (limit : ℕ) (out work : List ℕ) → Head
 unfolding readOf
-cutHead bytes limit out work = headOf (cutRefusal (readOf bytes (length work)) limit (length out)) (readOf bytes (length work))
+cutHead bytes limit out work = headOf (cutRefusal (readOf greatestGrey bytes (length work)) limit (length out)) (readOf greatestGrey bytes (length work))
 
 -- what the size list answers, and its tables
 unfoldable pub sizeHead : (bytes counts losses work : List ℕ) → SizeHead
 unfolding readOf
-sizeHead bytes counts losses work = sizeHeadOf (sizeRefusal (readOf bytes (length work)) (length counts) (length losses)) (readOf bytes (length work))
+sizeHead bytes counts losses work =
+    sizeHeadOf (sizeRefusal (readOf greatestGrey bytes (length work)) (length counts) (length losses)) (readOf greatestGrey bytes (length work))
 
 unfoldable pub sizeCounts : (bytes counts losses work : List ℕ) → List ℕ
 unfolding readOf
-sizeCounts bytes counts losses work = countsOut (readOf bytes (length work)) (length losses) counts
+sizeCounts bytes counts losses work = countsOut (readOf greatestGrey bytes (length work)) (length losses) counts
 
 unfoldable pub sizeLosses : (bytes counts losses work : List ℕ) → List ℕ
 unfolding readOf
-sizeLosses bytes counts losses work = lossesOut (readOf bytes (length work)) (length counts) losses
+sizeLosses bytes counts losses work = lossesOut (readOf greatestGrey bytes (length work)) (length counts) losses
 
 -- the cut at one limit: it is not refused, and it is the cut
 pub record CutClaim (k w h : ℕ) (f bytes : List ℕ) (limit : ℕ) (out work : List ℕ) : Type 0 where

@@ -5,7 +5,7 @@ use mathlib.Core.List.{List}
 use Prim.Native.Nat.{ℕ, _*_, _≤_}
 use lib.ListN.{length}
 use Rattle.meaning.specs.Answers.{over}
-use Rattle.meaning.specs.Plate.{Plate}
+use Rattle.meaning.specs.Plate.{Plate, greatestGrey}
 use Rattle.meaning.specs.Record.{recordOf}
 use Rattle.record_parse.specs.Parse.{plate, readOf}
 use Rattle.record.specs.Reading.{headOf, readOut, readRefusal}
@@ -13,14 +13,14 @@ use Rattle.record.specs.declared.Head.{Head}
 
 -- what reading the bytes s answers, and the output that it leaves
 abbrev pub readHead : (s out work : List ℕ) → Head
-readHead s out work = headOf (readRefusal (readOf s (length work)) (length out)) (readOf s (length work))
+readHead s out work = headOf (readRefusal (readOf greatestGrey s (length work)) (length out)) (readOf greatestGrey s (length work))
 
 abbrev pub readPlate : (s out work : List ℕ) → List ℕ
-readPlate s out work = readOut (readOf s (length work)) out
+readPlate s out work = readOut (readOf greatestGrey s (length work)) out
 
 -- the bytes s are the record of the accepted plate f, and the reader has its space
 pub record RecordRead (s out work : List ℕ) (k w h : ℕ) (f : List ℕ) : Type 0 where
-  pub accepted : Plate k w h f
+  pub accepted : Plate k w h greatestGrey f
   pub bytes : s ≡ recordOf k w h f
   pub places : w * h ≤ length out
   pub space : 8 * (w * h) ≤ length work
@@ -34,5 +34,5 @@ pub record OneRecord : Type 0 where
   pub only : (s out work : List ℕ) → readHead s out work .refusal ≡ 0
       → (k : ℕ) × ((w : ℕ) × ((h : ℕ) × ((f : List ℕ) × RecordRead s out work k w h f)))
   -- two plates with their connectivities that have one record are one
-  pub one : (k k′ w w′ h h′ : ℕ) (f f′ : List ℕ) → Plate k w h f → Plate k′ w′ h′ f′ → recordOf k w h f ≡ recordOf k′ w′ h′ f′
+  pub one : (k k′ w w′ h h′ : ℕ) (f f′ : List ℕ) → Plate k w h greatestGrey f → Plate k′ w′ h′ greatestGrey f′ → recordOf k w h f ≡ recordOf k′ w′ h′ f′
       → plate k w h f ≡ plate k′ w′ h′ f′

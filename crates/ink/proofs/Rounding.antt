@@ -1,11 +1,12 @@
 -- Rounding to the nearest whole number, halves up, over any divisor: what it is (rounded-halves), a bound of it (rounded-most), and that no tie
--- occurs over an odd divisor (rounded-near). Then the ink percentage, as an instance (percentage, ink-most).
+-- occurs over an odd divisor (rounded-near). Then the ink percentage, as an instance: it is at most 100 (ink-most), and nearest where the greatest grey is
+-- odd (ink-near, percentage).
 use mathlib.Core.Path.{_≡_, refl}
 use Prim.Native.Nat.{ℕ, suc, _+_, _-_, _*_, _/_, _%_, _≤_, _<_}
 use native.Mathlib.Nat.{div-lt-iff-lt-mul, div-mul-le-self, lt-div-mul-add, mul-comm, suc-mul}
 use native.Mathlib.Omega.{arith}
 use Rattle.meaning.specs.Plate.{greatestGrey, apart}
-use Rattle.meaning.specs.Ink.{rounded, inkOf}
+use Rattle.meaning.specs.Ink.{Nearest, rounded, inkOf}
 use Rattle.ink.specs.Percentage.{Percentage}
 
 -- r is a / d rounded: r − 1/2 ≤ a / d < r + 1/2, taken 2 × d times over
@@ -31,12 +32,16 @@ rounded-near a d odd =
     let halves = rounded-halves a d (omega arith) in
     omega (arith, halves .0, halves .1)
 
--- the formula gives the ink percentage
-pub percentage : (g : ℕ) → Percentage g (inkOf g)
-unfolding inkOf
-percentage g = record { value = refl; nearest = rounded-near ((greatestGrey - g) * 100) greatestGrey refl }
-
 -- no ink percentage is above 100
-pub ink-most : (g : ℕ) → inkOf g ≤ 100
+pub ink-most : (M g : ℕ) → 0 < M → inkOf M g ≤ 100
 unfolding inkOf
-ink-most g = rounded-most ((greatestGrey - g) * 100) greatestGrey 100 (omega arith) (omega arith)
+ink-most M g pos = rounded-most ((M - g) * 100) M 100 pos (omega arith)
+
+-- where the greatest grey is odd it is the nearest whole number
+ink-near : (M g : ℕ) → M % 2 ≡ 1 → Nearest M g (inkOf M g)
+unfolding inkOf
+ink-near M g odd = rounded-near ((M - g) * 100) M odd
+
+-- the formula gives the ink percentage
+pub percentage : (g : ℕ) → Percentage g (inkOf greatestGrey g)
+percentage g = record { value = refl; nearest = ink-near greatestGrey g refl }

@@ -3,6 +3,7 @@
 ghost use mathlib.Core.Path.{_≡_};
 ghost use lib.ListN.{length};
 ghost use Rattle.meaning.specs.Answers.{outAfter};
+ghost use Rattle.meaning.specs.Plate.{greatestGrey};
 ghost use Rattle.plate_filter.specs.Operations.{Cleaned, MaximaMarked, NodesListed, columns};
 ghost use Rattle.record_parse.specs.Parse.{readOf};
 ghost use Rattle.record.specs.Writing.{WrittenRecord};
@@ -137,7 +138,7 @@ pub extern "C" fn livukoe_write_record(
 // Reads a record: its plate.
 #[no_mangle]
 pub extern "C" fn livukoe_read_record(bytes: &[u8], out: &mut [u8], work: &mut [u32]) -> Head
-    ensures { λ r. ⌜ ReadRecord (readOf (now (bytes .entry)) (length (now (work .entry)))) (now (out .entry)) (now (out .exit))
+    ensures { λ r. ⌜ ReadRecord (readOf greatestGrey (now (bytes .entry)) (length (now (work .entry)))) (now (out .entry)) (now (out .exit))
         (now (work .entry)) (now (work .exit)) r ⌝ }
 {
     record::read_record(bytes, out, work)
@@ -151,7 +152,7 @@ pub extern "C" fn livukoe_cut_record(
     out: &mut [u8],
     work: &mut [u32],
 ) -> Head
-    ensures { λ r. ⌜ CutRecord (readOf (now (bytes .entry)) (length (now (work .entry)))) limit (now (out .entry)) (now (out .exit))
+    ensures { λ r. ⌜ CutRecord (readOf greatestGrey (now (bytes .entry)) (length (now (work .entry)))) limit (now (out .entry)) (now (out .exit))
         (now (work .entry)) (now (work .exit)) r ⌝ }
 {
     record::cut_record(bytes, limit, out, work)
@@ -165,7 +166,7 @@ pub extern "C" fn livukoe_size_list(
     losses: &mut [u64],
     work: &mut [u32],
 ) -> SizeHead
-    ensures { λ r. ⌜ ListedSizes (readOf (now (bytes .entry)) (length (now (work .entry)))) (now (counts .entry)) (now (counts .exit))
+    ensures { λ r. ⌜ ListedSizes (readOf greatestGrey (now (bytes .entry)) (length (now (work .entry)))) (now (counts .entry)) (now (counts .exit))
         (now (losses .entry)) (now (losses .exit)) (now (work .entry)) (now (work .exit)) r ⌝ }
 {
     record::size_list(bytes, counts, losses, work)

@@ -141,7 +141,7 @@ module _ {g : Shape} {f w : List ℕ} {count limit : ℕ} where
           (cut-value (a .attributed) limit (a .fits) i l (a .values) c) (a .values);
     }
 
-    pub cutting-done : Attributed g f w count → count ≤ i → ValuesAre (g .pixels) (cut (g .connectivity) (g .width) (g .height) limit f) w w′
+    pub cutting-done : Attributed g f w count → count ≤ i → ValuesAre (g .pixels) (g .greatest) (cut (g .connectivity) (g .width) (g .height) limit f) w w′
     unfolding opened
     cutting-done first l =
         let t = first .tree in
@@ -157,7 +157,7 @@ module _ {g : Shape} {f w : List ℕ} {count limit : ℕ} where
 -- by the plate whose greys stood there before the attributes were set
 pub cut-done : {g : Shape} {w w₁ w₂ : List ℕ} {count limit i : ℕ} → AttributesSet g w w₁ count
     → Cutting g (greysIn (g .pixels) w₁) count limit w₁ w₂ i → count ≤ i
-    → ValuesAre (g .pixels) (cut (g .connectivity) (g .width) (g .height) limit (greysIn (g .pixels) w)) w w₂
+    → ValuesAre (g .pixels) (g .greatest) (cut (g .connectivity) (g .width) (g .height) limit (greysIn (g .pixels) w)) w w₂
 cut-done {g} {limit = limit} s a l =
     let v = cutting-done a (attributed-here (s .attributed)) l in
     record {

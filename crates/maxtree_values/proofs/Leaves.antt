@@ -7,8 +7,9 @@ use Prim.Native.Nat.{ℕ, _+_, _≤_, _<_}
 use native.Mathlib.Omega.{arith}
 use lib.Dec.{eqb, eqb→eq, eqb-refl}
 use Rattle.meaning.specs.Maxima.{marks, maximum}
-use Rattle.meaning.specs.Plate.{greatestGrey, grey}
+use Rattle.meaning.specs.Plate.{grey}
 use Rattle.meaning.specs.Sets.{bit, table}
+use Rattle.theory_connectivity.proofs.Sizes.{greatest-range}
 use Rattle.theory_lists.proofs.Tests.{choice}
 use Rattle.work_columns.specs.Columns.{Only, Stored, col}
 use Rattle.work_columns.specs.Layout.{PARENT, VALUE, touchIn}
@@ -61,13 +62,13 @@ module _ {n count : ℕ} {w : List ℕ} where
       e′ : m ≡ col PARENT n w i
       e′ = e ∙ rw (a .only .off PARENT (omega arith) (λ x. omega arith))
 
-bit-low : (b : Bool) → bit b ≤ greatestGrey
+bit-low : (b : Bool) → bit b ≤ 1
 bit-low true = omega arith
 bit-low false = omega arith
 
 module _ {g : Shape} {f w : List ℕ} {count : ℕ} (t : Tree g f w count) where
   pub marking-done : {w₁ w₂ : List ℕ} {i : ℕ} → Ones (g .pixels) count w w₁ → Marking (g .pixels) count w₁ w₂ i → count ≤ i → i ≤ count
-      → ValuesAre (g .pixels) (marks (g .connectivity) (g .width) f) w w₂
+      → ValuesAre (g .pixels) (g .greatest) (marks (g .connectivity) (g .width) f) w w₂
   unfolding marks
   marking-done {w₁} {w₂} {i} o a l b =
       let n : ℕ = g .pixels in
@@ -78,4 +79,4 @@ module _ {g : Shape} {f w : List ℕ} {count : ℕ} (t : Tree g f w count) where
       (values-are t (only-trans (o .only) (a .only)) (λ (j : ℕ). bit (not (hasChild count (col PARENT n w) j))) h
       (λ j c. rw (← x, ← o .only .off PARENT (omega arith) (λ y. omega arith)) (a .values j c))
       (λ q c. ap bit (leaf-is-maximum t q c))
-      (λ q c. bit-low (maximum n (touchIn g) (grey f) q)))
+      (λ q c. omega (arith, bit-low (maximum n (touchIn g) (grey f) q), greatest-range (g .greatest) (t .plate .range) .least)))

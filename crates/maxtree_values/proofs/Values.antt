@@ -4,7 +4,7 @@ use mathlib.Core.List.{List}
 use Prim.Native.Nat.{ℕ, _≤_, _<_}
 use native.Mathlib.Omega.{arith}
 use Rattle.meaning.specs.Nodes.{own}
-use Rattle.meaning.specs.Plate.{greatestGrey, grey}
+use Rattle.meaning.specs.Plate.{grey}
 use Rattle.meaning.specs.Sets.{table}
 use Rattle.theory_lists.proofs.Lists.{table-same}
 use Rattle.work_columns.specs.Columns.{Only, col}
@@ -20,8 +20,8 @@ module _ {g : Shape} {f w w′ : List ℕ} {count : ℕ} (t : Tree g f w count) 
 
   -- all nodes have their values v, which by pixel are h, greys
   pub values-are : (v h : ℕ → ℕ) → ((i : ℕ) → i < count → col VALUE (g .pixels) w′ i ≡ v i)
-      → ((p : ℕ) → p < g .pixels → v (own (g .pixels) (touchIn g) (grey f) (nodesIn g f) p) ≡ h p) → ((p : ℕ) → p < g .pixels → h p ≤ greatestGrey)
-      → ValuesAre (g .pixels) (table (g .pixels) h) w w′
+      → ((p : ℕ) → p < g .pixels → v (own (g .pixels) (touchIn g) (grey f) (nodesIn g f) p) ≡ h p) → ((p : ℕ) → p < g .pixels → h p ≤ g .greatest)
+      → ValuesAre (g .pixels) (g .greatest) (table (g .pixels) h) w w′
   values-are v h e same low = record {
     frame = a .frame;
     writable = record { room = t′ .room; owns = own-inside t′; low = λ p l. omega (arith, here p l, low p l) };

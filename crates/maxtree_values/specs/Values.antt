@@ -1,11 +1,10 @@
--- Values by node in the column VALUE, and what is written out of the work space. n: the pixels; count: the nodes.
+-- Values by node in the column VALUE, and what is written out of the work space. n: the pixels; M: the greatest grey; count: the nodes.
 use mathlib.Core.Path.{_≡_}
 use mathlib.Core.Bool.{Bool}
 use mathlib.Core.List.{List, _++_}
 use Prim.Native.Nat.{ℕ, suc, _*_, _≤_, _<_}
 use lib.ListN.{length, drop, replicate}
 use Rattle.meaning.specs.Answers.{over}
-use Rattle.meaning.specs.Plate.{greatestGrey}
 use Rattle.meaning.specs.Sets.{table}
 use Rattle.work_columns.specs.Columns.{Frame, Only, Room, col}
 use Rattle.work_columns.specs.Layout.{ATTRIBUTE, LEVEL, OWN, PARENT, VALUE}
@@ -19,15 +18,15 @@ abbrev pub valuesIn : ℕ → List ℕ → List ℕ
 valuesIn n w = table n (valueAt n w)
 
 -- each is a grey
-pub record Writable (n : ℕ) (w : List ℕ) : Type 0 where
+pub record Writable (n M : ℕ) (w : List ℕ) : Type 0 where
   pub room : Room w n
   pub owns : (p : ℕ) → p < n → col OWN n w p < n
-  pub low : (p : ℕ) → p < n → valueAt n w p ≤ greatestGrey
+  pub low : (p : ℕ) → p < n → valueAt n w p ≤ M
 
 -- the nodes are given their values, which by pixel are the plate `answer`
-pub record ValuesAre (n : ℕ) (answer w w′ : List ℕ) : Type 0 where
+pub record ValuesAre (n M : ℕ) (answer w w′ : List ℕ) : Type 0 where
   pub frame : Frame n w w′
-  pub writable : Writable n w′
+  pub writable : Writable n M w′
   pub by-pixel : valuesIn n w′ ≡ answer
 
 -- ---- the cut at a limit
@@ -58,9 +57,13 @@ pub record Ones (n count : ℕ) (w w′ : List ℕ) : Type 0 where
 
 -- ---- writing
 
+-- each grey up to M is a byte
+abbrev pub Bytes : ℕ → Type 0
+Bytes M = M < 256
+
 -- all values are written, and the columns are cleared
-pub record Delivered (negated : Bool) (n : ℕ) (w w′ out out′ : List ℕ) : Type 0 where
-  pub written : out′ ≡ over (sidePlate negated (valuesIn n w)) out
+pub record Delivered (negated : Bool) (n M : ℕ) (w w′ out out′ : List ℕ) : Type 0 where
+  pub written : out′ ≡ over (sidePlate negated M (valuesIn n w)) out
   pub cleared : w′ ≡ replicate (8 * n) 0 ++ drop (8 * n) w
 
 -- there is a column, and room for its entries

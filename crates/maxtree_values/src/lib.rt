@@ -11,7 +11,7 @@ ghost use Rattle.work_columns.specs.Columns.{Room, col};
 ghost use Rattle.work_columns.specs.Layout.{ATTRIBUTE, greysIn};
 ghost use Rattle.maxtree_columns.specs.Tree.{TreeStands};
 ghost use Rattle.plate_greys.specs.Sides.{sideGrey, sidePlate};
-ghost use Rattle.maxtree_values.specs.Values.{Climbable, Climbed, ValuesAre, Ones, Writable, valueAt, valuesIn, Delivered, Copyable};
+ghost use Rattle.maxtree_values.specs.Values.{Climbable, Climbed, ValuesAre, Ones, Writable, valueAt, valuesIn, Bytes, Delivered, Copyable};
 use work_columns::ATTRIBUTE;
 use work_columns::LEVEL;
 use work_columns::OWN;
@@ -65,7 +65,7 @@ fn cut_value(w: &[u32], n: usize, limit: usize, i: usize) -> usize
 pub fn cut_values(w: &mut [u32], g: Shape, count: usize, limit: usize)
     requires { ⌜ TreeStands g (now w) count ⌝ }
     requires { ⌜ limit ≤ g .pixels ⌝ }
-    ensures { λ _. ⌜ ValuesAre (g .pixels) (cut (g .connectivity) (g .width) (g .height) limit (greysIn (g .pixels) (now (w .entry))))
+    ensures { λ _. ⌜ ValuesAre (g .pixels) (g .greatest) (cut (g .connectivity) (g .width) (g .height) limit (greysIn (g .pixels) (now (w .entry))))
         (now (w .entry)) (now (w .exit)) ⌝ }
 {
     maxtree_attribute::set_attributes(w, g, count);
@@ -92,7 +92,7 @@ fn set_ones(w: &mut [u32], g: Shape, count: usize)
 // Gives each node that is a parent the value 0, and the others 1: the marks of the plate's regional maxima.
 pub fn mark_leaves(w: &mut [u32], g: Shape, count: usize)
     requires { ⌜ TreeStands g (now w) count ⌝ }
-    ensures { λ _. ⌜ ValuesAre (g .pixels) (marks (g .connectivity) (g .width) (greysIn (g .pixels) (now (w .entry))))
+    ensures { λ _. ⌜ ValuesAre (g .pixels) (g .greatest) (marks (g .connectivity) (g .width) (greysIn (g .pixels) (now (w .entry))))
         (now (w .entry)) (now (w .exit)) ⌝ }
 {
     set_ones(w, g, count);
@@ -105,36 +105,36 @@ pub fn mark_leaves(w: &mut [u32], g: Shape, count: usize)
 }
 
 // The value of the own node of pixel p, or its negative.
-fn out_value(w: &[u32], n: usize, negated: bool, p: usize) -> u8
-    requires { ⌜ Writable n (now w) ⌝ }
+fn out_value(w: &[u32], n: usize, negated: bool, greatest: usize, p: usize) -> u8
+    requires { ⌜ Writable n greatest (now w) × Bytes greatest ⌝ }
     requires { ⌜ p < n ⌝ }
-    ensures { λ r. ⌜ r ≡ sideGrey negated (valueAt n (now (w .entry)) p) ⌝ }
+    ensures { λ r. ⌜ r ≡ sideGrey negated greatest (valueAt n (now (w .entry)) p) ⌝ }
 {
     let node = work_columns::get(w, n, OWN, p);
     let value = work_columns::get(w, n, VALUE, node);
-    plate_greys::side_grey(negated, value) as u8
+    plate_greys::side_grey(negated, greatest, value) as u8
 }
 
 // Writes, for each pixel, the value of its own node, or the negative of that value.
-pub fn write_values(w: &[u32], n: usize, negated: bool, out: &mut [u8])
-    requires { ⌜ Writable n (now w) ⌝ }
+pub fn write_values(w: &[u32], n: usize, negated: bool, greatest: usize, out: &mut [u8])
+    requires { ⌜ Writable n greatest (now w) × Bytes greatest ⌝ }
     requires { ⌜ n ≤ length (now out) ⌝ }
-    ensures { λ _. ⌜ now (out .exit) ≡ over (sidePlate negated (valuesIn n (now (w .entry)))) (now (out .entry)) ⌝ }
+    ensures { λ _. ⌜ now (out .exit) ≡ over (sidePlate negated greatest (valuesIn n (now (w .entry)))) (now (out .entry)) ⌝ }
 {
     let mut p: usize = 0;
     while p < n {
-        out[p] = out_value(w, n, negated, p);
+        out[p] = out_value(w, n, negated, greatest, p);
         p += 1;
     }
 }
 
 // Writes the values as `write_values` does, and sets the work space to zero.
-pub fn deliver(w: &mut [u32], n: usize, negated: bool, out: &mut [u8])
-    requires { ⌜ Writable n (now w) ⌝ }
+pub fn deliver(w: &mut [u32], n: usize, negated: bool, greatest: usize, out: &mut [u8])
+    requires { ⌜ Writable n greatest (now w) × Bytes greatest ⌝ }
     requires { ⌜ n ≤ length (now out) ⌝ }
-    ensures { λ _. ⌜ Delivered negated n (now (w .entry)) (now (w .exit)) (now (out .entry)) (now (out .exit)) ⌝ }
+    ensures { λ _. ⌜ Delivered negated n greatest (now (w .entry)) (now (w .exit)) (now (out .entry)) (now (out .exit)) ⌝ }
 {
-    write_values(w, n, negated, out);
+    write_values(w, n, negated, greatest, out);
     work_columns::clear(w, n);
 }
 

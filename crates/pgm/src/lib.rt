@@ -6,6 +6,7 @@ ghost use lib.ListN.{length, drop};
 ghost use Rattle.meaning.specs.Answers.{over, outAfter};
 ghost use Rattle.pgm.specs.File.{rasterRefusal, refusedRead, ReadPlate, readPgm, rasterOf};
 use pgm_header::Header;
+use plate_refusals::GREATEST_GREY;
 
 // What reading a plate file answers: 0 or the refusal, and the sizes, which are 0 where it refuses.
 #[repr(C)]
@@ -22,7 +23,7 @@ fn raster_refusal(width: u32, height: u32, greatest: u32, left: usize, room: usi
     if !plate_refusals::grid_fits(width, height) {
         return 2;
     }
-    if greatest != 255 {
+    if greatest != GREATEST_GREY {
         return 12;
     }
     let pixels = (width * height) as usize;

@@ -3,6 +3,7 @@ ghost use mathlib.Core.Path.{_≡_};
 ghost use Prim.Native.Nat.{min};
 ghost use Rattle.plate_filter.specs.Operations.{Cleaned, MaximaMarked, NodesListed, columns, shortest, Lent, ColumnsWritten};
 use plate_refusals::DARK;
+use plate_refusals::GREATEST_GREY;
 use plate_tree::NodeList;
 use work_columns::ANCHOR;
 use work_columns::AREA;
@@ -38,10 +39,10 @@ pub fn clean(
         return refusal;
     }
     let negated = side == DARK;
-    let g = work_columns::shape_of(n, width, height, connectivity);
+    let g = work_columns::shape_of(n, width, height, GREATEST_GREY, connectivity);
     let count = plate_tree::plate_tree(image, negated, g, work);
     maxtree_values::cut_values(work, g, count, limit as usize);
-    maxtree_values::deliver(work, n, negated, out);
+    maxtree_values::deliver(work, n, negated, g.greatest, out);
     0
 }
 
@@ -69,10 +70,10 @@ pub fn regional_maxima(
     if refusal != 0 {
         return refusal;
     }
-    let g = work_columns::shape_of(n, width, height, connectivity);
+    let g = work_columns::shape_of(n, width, height, GREATEST_GREY, connectivity);
     let count = plate_tree::plate_tree(image, false, g, work);
     maxtree_values::mark_leaves(work, g, count);
-    maxtree_values::deliver(work, n, false, out);
+    maxtree_values::deliver(work, n, false, g.greatest, out);
     0
 }
 
@@ -129,7 +130,15 @@ pub fn node_list(
         (now (work .entry)) (now (work .exit)) (r .refusal) (r .count) ⌝ }
 {
     let places = shortest(levels.len(), parents.len(), areas.len(), anchors.len());
-    let list = plate_tree::start_list(image, width, height, connectivity, places, work);
+    let list = plate_tree::start_list(
+        image,
+        width,
+        height,
+        GREATEST_GREY,
+        connectivity,
+        places,
+        work,
+    );
     if list.refusal != 0 {
         return list;
     }

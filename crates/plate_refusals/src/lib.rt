@@ -13,6 +13,9 @@ pub const LIGHT: u32 = 1;
 
 pub const DARK: u32 = 2;
 
+// The greatest grey of the plates that the operations take, whose greys are bytes.
+pub const GREATEST_GREY: u32 = 255;
+
 // Is the side light or dark?
 fn side_fits(side: u32) -> bool
     ensures { λ r. ⌜ r ≡ sideFits side ⌝ }

@@ -14,14 +14,14 @@ use Rattle.work_columns.specs.Columns.{Room}
 use Rattle.work_columns.specs.Layout.{shapeOf}
 use Rattle.work_columns.specs.declared.Shape.{Shape}
 use Rattle.maxtree_columns.proofs.Tree.{few-nodes}
-use Rattle.plate_tree.specs.PlateTree.{PlateReady, PlateTree}
+use Rattle.plate_tree.specs.PlateTree.{GreysFit, PlateReady, PlateTree}
 use Rattle.plate_tree.specs.Listing.{ListAnswered, Started, nodeListRefusal}
 use Rattle.plate_tree.proofs.Building.{cleared-space, plate-ready}
 
 -- r: what was found to be the refusal by 1, 2, 3 and 6
-module _ (k w h : ℕ) (f work : List ℕ) (places : ℕ) {r : ℕ} (e : r ≡ plateRefusal k w h f (workRefusal (w * h) (length work) 0)) where
+module _ (k w h M : ℕ) (f work : List ℕ) (places : ℕ) {r : ℕ} (e : r ≡ plateRefusal k w h f (workRefusal (w * h) (length work) 0)) where
   -- one of them
-  pub started-refused : (r ≡ 0 → ⊥) → Started k w h f places work work r 0
+  pub started-refused : (r ≡ 0 → ⊥) → Started k w h M f places work work r 0
   unfolding nodeListRefusal
   started-refused x =
       let z : eqb r 0 ≡ false = ne-eqb r 0 x in
@@ -38,12 +38,12 @@ module _ (k w h : ℕ) (f work : List ℕ) (places : ℕ) {r : ℕ} (e : r ≡ p
     listable : Listable k w h f (length work)
     listable = tree-none k w h f (length work) e z
 
-    module _ {g : Shape} (shape : g ≡ shapeOf (length f) w h k) where
-      pub started-ready : PlateReady g f work
-      started-ready = plate-ready shape (listable .taken) (listable .space)
+    module _ {g : Shape} (shape : g ≡ shapeOf (length f) w h M k) where
+      pub started-ready : GreysFit M f → PlateReady g f work
+      started-ready fit = plate-ready shape fit (listable .taken) (listable .space)
 
       module _ {w₁ : List ℕ} {count : ℕ} (stood : PlateTree false g f work w₁ count) where
-        p : PlateTree false (shapeOf (length f) w h k) f work w₁ count
+        p : PlateTree false (shapeOf (length f) w h M k) f work w₁ count
         p = rw shape at stood
 
         -- there are columns to clear, and the count fits an answer
@@ -59,7 +59,7 @@ module _ (k w h : ℕ) (f work : List ℕ) (places : ℕ) {r : ℕ} (e : r ≡ p
 
         -- 5: too few places
         pub started-short : {q : ℕ} {w₂ : List ℕ} → q ≡ outRefusal count places 0 → (q ≡ 0 → ⊥)
-            → w₂ ≡ replicate (8 * length f) 0 ++ drop (8 * length f) w₁ → Started k w h f places work w₂ q 0
+            → w₂ ≡ replicate (8 * length f) 0 ++ drop (8 * length f) w₁ → Started k w h M f places work w₂ q 0
         started-short q x c = record {
           number = q ∙ sym refusal-is;
           counted = rw (ne-eqb _ 0 x);
@@ -68,7 +68,7 @@ module _ (k w h : ℕ) (f work : List ℕ) (places : ℕ) {r : ℕ} (e : r ≡ p
           tree-stands = λ u. absurd (x u);
         }
 
-        pub started-done : {q : ℕ} → q ≡ outRefusal count places 0 → q ≡ 0 → Started k w h f places work w₁ 0 count
+        pub started-done : {q : ℕ} → q ≡ outRefusal count places 0 → q ≡ 0 → Started k w h M f places work w₁ 0 count
         started-done q u = record {
           number = sym (refusal-is ∙ sym q ∙ u);
           counted = p .tree .nodes;
@@ -78,12 +78,12 @@ module _ (k w h : ℕ) (f work : List ℕ) (places : ℕ) {r : ℕ} (e : r ≡ p
         }
 
 -- what the list answers
-module _ {k w h : ℕ} {f work w₁ : List ℕ} {places r count : ℕ} (s : Started k w h f places work w₁ r count) where
-  pub list-refused : (r ≡ 0 → ⊥) → ListAnswered k w h f places work w₁ r count
+module _ {k w h M : ℕ} {f work w₁ : List ℕ} {places r count : ℕ} (s : Started k w h M f places work w₁ r count) where
+  pub list-refused : (r ≡ 0 → ⊥) → ListAnswered k w h M f places work w₁ r count
   list-refused x = record { number = s .number; counted = s .counted; space = s .stopped x; accepted = λ u. absurd (x u) }
 
   -- with the work space cleared at the end
-  pub list-done : {w₂ : List ℕ} → r ≡ 0 → w₂ ≡ replicate (8 * length f) 0 ++ drop (8 * length f) w₁ → ListAnswered k w h f places work w₂ r count
+  pub list-done : {w₂ : List ℕ} → r ≡ 0 → w₂ ≡ replicate (8 * length f) 0 ++ drop (8 * length f) w₁ → ListAnswered k w h M f places work w₂ r count
   list-done z c =
       let p = s .tree-stands z in
       record { number = s .number; counted = s .counted; space = rw z (cleared-space (p .plate) (p .frame) c); accepted = λ _. p .plate }

@@ -1,6 +1,6 @@
 // The component tree of a plate, from the plate to the columns of the work space, and the start of a node list from it.
 ghost use mathlib.Core.Path.{_≡_};
-ghost use Rattle.plate_tree.specs.PlateTree.{PlateReady, PlateTree};
+ghost use Rattle.plate_tree.specs.PlateTree.{GreysFit, PlateReady, PlateTree};
 ghost use Rattle.plate_tree.specs.Listing.{Started};
 use work_columns::Shape;
 
@@ -9,8 +9,15 @@ pub fn plate_tree(image: &[u8], negated: bool, g: Shape, work: &mut [u32]) -> us
     requires { ⌜ PlateReady g (now image) (now work) ⌝ }
     ensures { λ r. ⌜ PlateTree negated g (now (image .entry)) (now (work .entry)) (now (work .exit)) r ⌝ }
 {
-    plate_greys::load(image, negated, work);
-    maxtree::build_tree(work, g.pixels, g.width, g.height, g.connectivity)
+    plate_greys::load(image, negated, g.greatest, work);
+    maxtree::build_tree(
+        work,
+        g.pixels,
+        g.width,
+        g.height,
+        g.greatest,
+        g.connectivity,
+    )
 }
 
 // What the node list answers: its refusal, or 0 and the number of nodes.
@@ -30,16 +37,18 @@ fn refused(refusal: u32) -> NodeList
     }
 }
 
-// Starts a node list with so many places: the plate's component tree stands in the work space, or the list is refused.
+// Starts a node list with so many places, of a plate of greys up to `greatest`: its component tree stands in the work space, or the list is refused.
 pub fn start_list(
     image: &[u8],
     width: u32,
     height: u32,
+    greatest: u32,
     connectivity: u32,
     places: usize,
     work: &mut [u32],
 ) -> NodeList
-    ensures { λ r. ⌜ Started connectivity width height (now (image .entry)) places
+    requires { ⌜ GreysFit greatest (now image) ⌝ }
+    ensures { λ r. ⌜ Started connectivity width height greatest (now (image .entry)) places
         (now (work .entry)) (now (work .exit)) (r .refusal) (r .count) ⌝ }
 {
     let n = image.len();
@@ -47,7 +56,7 @@ pub fn start_list(
     if refusal != 0 {
         return refused(refusal);
     }
-    let g = work_columns::shape_of(n, width, height, connectivity);
+    let g = work_columns::shape_of(n, width, height, greatest, connectivity);
     let count = plate_tree(image, false, g, work);
     let short = plate_refusals::out_refusal(count, places);
     if short != 0 {

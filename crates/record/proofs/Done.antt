@@ -14,7 +14,7 @@ use Rattle.work_columns.proofs.Columns.{cleared, frame-room, frame-trans}
 use Rattle.theory_connectivity.proofs.Sizes.{grid-sizes}
 use Rattle.maxtree_columns.specs.Tree.{TreeStands}
 use Rattle.maxtree_columns.proofs.Tree.{few-nodes}
-use Rattle.maxtree_values.specs.Values.{Delivered, ValuesAre, Writable}
+use Rattle.maxtree_values.specs.Values.{Bytes, Delivered, ValuesAre, Writable}
 use Rattle.plate_refusals.proofs.Refusals.{limit-none, out-none, tables-none}
 use Rattle.record_parse.specs.Parse.{Parsed}
 use Rattle.record_sizes.specs.Sizes.{SizesWritten, TablesFit}
@@ -22,7 +22,7 @@ use Rattle.record_tree.specs.Found.{GreysStand}
 use Rattle.record_tree.proofs.Finding.{TreeFound}
 use Rattle.record.specs.Reading.{CutRecord, ListedSizes, ReadRecord}
 
-module _ {P : Parsed} {wd ht k count : ℕ} {work w₁ : List ℕ} (t : TreeFound P wd ht k work w₁ count) where
+module _ {M : ℕ} {P : Parsed} {wd ht k count : ℕ} {work w₁ : List ℕ} (t : TreeFound M P wd ht k work w₁ count) where
   -- the pixels
   pub tree-few : wd * ht ≤ 16777216
   tree-few = grid-sizes wd ht (t .tree .plate .sizes) .few-pixels
@@ -33,10 +33,10 @@ module _ {P : Parsed} {wd ht k count : ℕ} {work w₁ : List ℕ} (t : TreeFoun
   -- ---- reading. r, here and below: what was found to be the refusal by the operation's own conditions
 
   module _ {r : ℕ} {out : List ℕ} (e : r ≡ outRefusal (wd * ht) (length out) 0) (z : r ≡ 0) where
-    pub read-greys : GreysStand (wd * ht) w₁ out
-    read-greys = record {
+    pub read-greys : Bytes M → GreysStand (wd * ht) w₁ out
+    read-greys bytes = record {
       room = tree-room;
-      greys = λ p l. omega (arith, ap (λ (h : ℕ → ℕ). h p) (t .tree .greys), t .tree .plate .greys p (omega (arith, t .tree .pixels)));
+      bytes = λ p l. omega (arith, ap (λ (h : ℕ → ℕ). h p) (t .tree .greys), t .tree .plate .greys p (omega (arith, t .tree .pixels)));
       places = out-none (wd * ht) (length out) 0 (sym e ∙ z) .0;
     }
 
@@ -49,12 +49,15 @@ module _ {P : Parsed} {wd ht k count : ℕ} {work w₁ : List ℕ} (t : TreeFoun
 
   -- ---- with the shape g that was made
 
-  module _ {g : Shape} (shape : g ≡ shapeOf (wd * ht) wd ht k) where
+  module _ {g : Shape} (shape : g ≡ shapeOf (wd * ht) wd ht M k) where
     pub found-stands : TreeStands g w₁ count
     found-stands = rw shape (t .tree)
 
     pixels-are : g .pixels ≡ wd * ht
     pixels-are = ap (λ (s : Shape). s .pixels) shape
+
+    greatest-is : g .greatest ≡ M
+    greatest-is = ap (λ (s : Shape). s .greatest) shape
 
     -- ---- cutting
 
@@ -67,14 +70,15 @@ module _ {P : Parsed} {wd ht k count : ℕ} {work w₁ : List ℕ} (t : TreeFoun
       pub cut-fits : limit ≤ g .pixels
       cut-fits = omega (arith, cut-limit, pixels-are)
 
-      module _ {w₂ : List ℕ} (v : ValuesAre (g .pixels) (cut (g .connectivity) (g .width) (g .height) limit (greysIn (g .pixels) w₁)) w₁ w₂) where
-        values : ValuesAre (wd * ht) (cut k wd ht limit (greysIn (wd * ht) w₁)) w₁ w₂
+      module _ {w₂ : List ℕ}
+          (v : ValuesAre (g .pixels) (g .greatest) (cut (g .connectivity) (g .width) (g .height) limit (greysIn (g .pixels) w₁)) w₁ w₂) where
+        values : ValuesAre (wd * ht) M (cut k wd ht limit (greysIn (wd * ht) w₁)) w₁ w₂
         values = rw shape at v
 
-        pub cut-writable : Writable (wd * ht) w₂ × (wd * ht ≤ length out)
-        cut-writable = (values .writable, cut-limit .1)
+        pub cut-writable : Bytes M → (Writable (wd * ht) (g .greatest) w₂ × Bytes (g .greatest)) × (wd * ht ≤ length out)
+        cut-writable bytes = rw greatest-is ((values .writable, bytes), cut-limit .1)
 
-        pub cut-done : {out′ w₃ : List ℕ} → Delivered false (wd * ht) w₂ w₃ out out′
+        pub cut-done : {out′ w₃ : List ℕ} → Delivered false (wd * ht) (g .greatest) w₂ w₃ out out′
             → CutRecord P limit out out′ work w₃ (record { refusal = 0; width = wd; height = ht; connectivity = k })
         cut-done d =
             let y : limitRefusal (wd * ht) limit (outRefusal (wd * ht) (length out) 0) ≡ 0 = sym e ∙ z in
@@ -105,7 +109,7 @@ module _ {P : Parsed} {wd ht k count : ℕ} {work w₁ : List ℕ} (t : TreeFoun
           (record { refusal = 0; width = wd; height = ht; connectivity = k; nodes = count; darkest = d; held = x })
       sizes-done {counted′} {lost′} {w₂} {d = d} {x} dark s c =
           let y : tablesRefusal (wd * ht) (length counted) (length lost) 0 ≡ 0 = sym e ∙ z in
-          let s′ : SizesWritten (shapeOf (wd * ht) wd ht k) w₁ w₂ counted counted′ lost lost′ x = rw shape at s in
+          let s′ : SizesWritten (shapeOf (wd * ht) wd ht M k) w₁ w₂ counted counted′ lost lost′ x = rw shape at s in
           let dark′ : d ≡ darkest (greysIn (wd * ht) w₁) = rw shape at dark in
           rw (t .is) (record {
             answer = rw (y, t .tree .nodes, dark′, s′ .listed .held-is);

@@ -40,7 +40,7 @@ pub data Stopped : Parsed → List ℕ → List ℕ → ℕ → Type 0 where
   unchanged : {work : List ℕ} {number : ℕ} → Stopped (early number) work work number
   zeroed : {work work′ : List ℕ} {number pixels : ℕ} → work′ ≡ workAfter true pixels work → Stopped (late number pixels) work work′ number
 
-pub stopped : {P : Parsed} (t : Found) {work w₁ w₂ : List ℕ} {number : ℕ} → FoundIs P work w₁ t → NoTree t → number ≡ foundNumber t
+pub stopped : {M : ℕ} {P : Parsed} (t : Found) {work w₁ w₂ : List ℕ} {number : ℕ} → FoundIs M P work w₁ t → NoTree t → number ≡ foundNumber t
     → w₂ ≡ clearedBy t w₁
     → Stopped P work w₂ number
 stopped (Early m) x other e c = rw (← (x .answer), e, c, x .space) unchanged

@@ -7,6 +7,7 @@ use lib.Dec.{eqb}
 use lib.ListN.{length, drop, replicate}
 use borrow.Author.Tests.{ne-eqb}
 use Rattle.meaning.specs.Answers.{outRefusal, over, plateRefusal, workAfter, workRefusal}
+use Rattle.meaning.specs.Plate.{greatestGrey}
 use Rattle.meaning.specs.Record.{recordOf}
 use Rattle.plate_refusals.proofs.Refusals.{Listable, out-met, tree-early, tree-first, tree-later}
 use Rattle.work_columns.specs.Columns.{Room}
@@ -14,7 +15,7 @@ use Rattle.work_columns.specs.Layout.{greysIn, shapeOf}
 use Rattle.work_columns.specs.declared.Shape.{Shape}
 use Rattle.work_columns.proofs.Columns.{cleared}
 use Rattle.maxtree_columns.proofs.Tree.{tree-plate}
-use Rattle.plate_tree.specs.PlateTree.{PlateReady, PlateTree}
+use Rattle.plate_tree.specs.PlateTree.{GreysFit, PlateReady, PlateTree}
 use Rattle.plate_tree.proofs.Building.{plate-ready}
 use Rattle.record.specs.Writing.{WrittenRecord, writeAnswer, writeOut, writeRefusal, writeWork}
 
@@ -29,17 +30,18 @@ wrote-refused k w h f out work {r} e x =
     record { answer = rw (is, z); output = rw (is, z); space = rw (is, z, y); accepted = λ none. absurd (x (sym is ∙ none)) }
 
 -- nothing but 5 is left to refuse; g: the plate's shape
-module _ {g : Shape} {k w h : ℕ} (f work : List ℕ) (listable : Listable k w h f (length work)) (shape : g ≡ shapeOf (length f) w h k) where
+module _ {g : Shape} {k w h : ℕ} (f work : List ℕ) (listable : Listable k w h f (length work))
+    (shape : g ≡ shapeOf (length f) w h greatestGrey k) where
   -- the tree can be made
-  pub wrote-ready : PlateReady g f work
-  wrote-ready = plate-ready shape (listable .taken) (listable .space)
+  pub wrote-ready : GreysFit greatestGrey f → PlateReady g f work
+  wrote-ready fit = plate-ready shape fit (listable .taken) (listable .space)
 
   refusal-is : (out : List ℕ) → writeRefusal k w h f out work ≡ outRefusal (length (recordOf k w h f)) (length out) 0
   unfolding writeRefusal
   refusal-is out = tree-later listable (length (recordOf k w h f)) (length out)
 
   module _ {w₁ : List ℕ} {count : ℕ} (stood : PlateTree false g f work w₁ count) where
-    p : PlateTree false (shapeOf (length f) w h k) f work w₁ count
+    p : PlateTree false (shapeOf (length f) w h greatestGrey k) f work w₁ count
     p = rw shape at stood
 
     pub wrote-room : Room w₁ (length f)

@@ -5,7 +5,7 @@ use Prim.Native.Nat.{ℕ, _*_}
 use lib.Dec.{eqb}
 use lib.ListN.{length}
 use Rattle.meaning.specs.Sets.{pick}
-use Rattle.meaning.specs.Plate.{Plate}
+use Rattle.meaning.specs.Plate.{Plate, greatestGrey}
 use Rattle.meaning.specs.Record.{recordOf}
 use Rattle.meaning.specs.Answers.{treeRefusal, outAfter, workAfter, began}
 use Rattle.record.specs.declared.Written.{Written}
@@ -33,4 +33,4 @@ pub record WrittenRecord (k w h : ℕ) (f out out′ work work′ : List ℕ) (r
   pub answer : r ≡ writeAnswer k w h f out work
   pub output : out′ ≡ writeOut k w h f out work
   pub space : work′ ≡ writeWork k w h f out work
-  pub accepted : writeRefusal k w h f out work ≡ 0 → Plate k w h f
+  pub accepted : writeRefusal k w h f out work ≡ 0 → Plate k w h greatestGrey f

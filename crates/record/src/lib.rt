@@ -1,9 +1,11 @@
 // Records: writing one, reading one, cutting one at a limit, the size list of one. Operations that callers use, and that require nothing.
 ghost use mathlib.Core.Path.{_≡_};
 ghost use lib.ListN.{length};
+ghost use Rattle.meaning.specs.Plate.{greatestGrey};
 ghost use Rattle.record_parse.specs.Parse.{readOf};
 ghost use Rattle.record.specs.Writing.{WrittenRecord};
 ghost use Rattle.record.specs.Reading.{ReadRecord, CutRecord, ListedSizes};
+use plate_refusals::GREATEST_GREY;
 use record_tree::Found;
 
 // What writing answers: the length of the record, in bytes.
@@ -86,7 +88,7 @@ pub fn write_record(
     if refusal != 0 {
         return refused_written(refusal);
     }
-    let g = work_columns::shape_of(n, width, height, connectivity);
+    let g = work_columns::shape_of(n, width, height, GREATEST_GREY, connectivity);
     let count = plate_tree::plate_tree(image, false, g, work);
     let size = record_fields::measure(work, g, count);
     let short = plate_refusals::out_refusal(size, out.len());
@@ -104,10 +106,10 @@ pub fn write_record(
 
 // Reads a record: its plate.
 pub fn read_record(bytes: &[u8], out: &mut [u8], work: &mut [u32]) -> Head
-    ensures { λ r. ⌜ ReadRecord (readOf (now (bytes .entry)) (length (now (work .entry))))
+    ensures { λ r. ⌜ ReadRecord (readOf greatestGrey (now (bytes .entry)) (length (now (work .entry))))
         (now (out .entry)) (now (out .exit)) (now (work .entry)) (now (work .exit)) r ⌝ }
 {
-    let f = record_tree::read_tree(bytes, work);
+    let f = record_tree::read_tree(bytes, GREATEST_GREY, work);
     let Found::Tree(width, height, connectivity, _) = f else {
         return refused_head(record_tree::give_up(f, work));
     };
@@ -129,10 +131,10 @@ pub fn read_record(bytes: &[u8], out: &mut [u8], work: &mut [u32]) -> Head
 
 // Cuts a record at a limit.
 pub fn cut_record(bytes: &[u8], limit: u32, out: &mut [u8], work: &mut [u32]) -> Head
-    ensures { λ r. ⌜ CutRecord (readOf (now (bytes .entry)) (length (now (work .entry)))) limit
+    ensures { λ r. ⌜ CutRecord (readOf greatestGrey (now (bytes .entry)) (length (now (work .entry)))) limit
         (now (out .entry)) (now (out .exit)) (now (work .entry)) (now (work .exit)) r ⌝ }
 {
-    let f = record_tree::read_tree(bytes, work);
+    let f = record_tree::read_tree(bytes, GREATEST_GREY, work);
     let Found::Tree(width, height, connectivity, count) = f else {
         return refused_head(record_tree::give_up(f, work));
     };
@@ -142,9 +144,9 @@ pub fn cut_record(bytes: &[u8], limit: u32, out: &mut [u8], work: &mut [u32]) ->
         work_columns::clear(work, n);
         return refused_head(refusal);
     }
-    let g = work_columns::shape_of(n, width, height, connectivity);
+    let g = work_columns::shape_of(n, width, height, GREATEST_GREY, connectivity);
     maxtree_values::cut_values(work, g, count, limit as usize);
-    maxtree_values::deliver(work, n, false, out);
+    maxtree_values::deliver(work, n, false, g.greatest, out);
     Head {
         refusal: 0,
         width: width,
@@ -155,10 +157,10 @@ pub fn cut_record(bytes: &[u8], limit: u32, out: &mut [u8], work: &mut [u32]) ->
 
 // Lists the sizes of a record's nodes off the trim edge: by area, their number and the grey lost.
 pub fn size_list(bytes: &[u8], counts: &mut [u32], losses: &mut [u64], work: &mut [u32]) -> SizeHead
-    ensures { λ r. ⌜ ListedSizes (readOf (now (bytes .entry)) (length (now (work .entry))))
+    ensures { λ r. ⌜ ListedSizes (readOf greatestGrey (now (bytes .entry)) (length (now (work .entry))))
         (now (counts .entry)) (now (counts .exit)) (now (losses .entry)) (now (losses .exit)) (now (work .entry)) (now (work .exit)) r ⌝ }
 {
-    let f = record_tree::read_tree(bytes, work);
+    let f = record_tree::read_tree(bytes, GREATEST_GREY, work);
     let Found::Tree(width, height, connectivity, count) = f else {
         return refused_sizes(record_tree::give_up(f, work));
     };
@@ -168,7 +170,7 @@ pub fn size_list(bytes: &[u8], counts: &mut [u32], losses: &mut [u64], work: &mu
         work_columns::clear(work, n);
         return refused_sizes(refusal);
     }
-    let g = work_columns::shape_of(n, width, height, connectivity);
+    let g = work_columns::shape_of(n, width, height, GREATEST_GREY, connectivity);
     let darkest = record_sizes::darkest_of(work, g, count);
     let held = record_sizes::list_sizes(work, g, count, counts, losses);
     work_columns::clear(work, n);

@@ -4,6 +4,7 @@ use mathlib.Core.Path.{_≡_, refl}
 use mathlib.Core.List.{List, [], _∷_, _++_, map}
 use Prim.Native.Nat.{ℕ}
 use Rattle.meaning.specs.Examples.{small}
+use Rattle.meaning.specs.Plate.{greatestGrey}
 use Rattle.record_varint.specs.Field.{continued, fieldOf, starts, value}
 use Rattle.record_parse.specs.Parse.{Parsed, early, late, plate, readOf}
 
@@ -52,6 +53,6 @@ cases =
     ∷ case (2 ∷ 2 ∷ 8 ∷ rising) 32 (plate 8 2 2 (0 ∷ 9 ∷ 9 ∷ 0 ∷ []))
     ∷ []
 
-pub cases-hold : map (λ (c : Case). readOf (c .bytes) (c .work)) cases ≡ map (λ (c : Case). c .answer) cases
+pub cases-hold : map (λ (c : Case). readOf greatestGrey (c .bytes) (c .work)) cases ≡ map (λ (c : Case). c .answer) cases
 unfolding readOf fieldOf continued starts value
 cases-hold = refl

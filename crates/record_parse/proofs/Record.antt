@@ -21,72 +21,72 @@ use Rattle.record_parse.specs.Parse.{Parsed, early, fromConnectivity, fr
 use Rattle.record_parse.specs.Steps.{ParsedWork, TreeRead, parsedBy, treeParsed}
 use Rattle.record_parse.proofs.Fields.{Took}
 
--- ---- after each field; work: the length of the work space
+-- ---- after each field; M: the greatest grey; work: the length of the work space
 
-pub record AfterWidth (s : List ℕ) (work w at : ℕ) : Type 0 where
-  pub parsed : parse s work ≡ fromHeight s work w at
+pub record AfterWidth (M : ℕ) (s : List ℕ) (work w at : ℕ) : Type 0 where
+  pub parsed : parse M s work ≡ fromHeight M s work w at
   pub wide : w ≤ maxExtent
 
-pub record AfterHeight (s : List ℕ) (work w h at : ℕ) : Type 0 where
-  pub parsed : parse s work ≡ pick (ltb maxPixels (w * h)) (early 22) (fromConnectivity s work w h at)
+pub record AfterHeight (M : ℕ) (s : List ℕ) (work w h at : ℕ) : Type 0 where
+  pub parsed : parse M s work ≡ pick (ltb maxPixels (w * h)) (early 22) (fromConnectivity M s work w h at)
   pub fits : w * h < fieldBound
 
-pub record AfterConnectivity (s : List ℕ) (work w h k at : ℕ) : Type 0 where
-  pub parsed : parse s work ≡ pick (not (connectivityFits k)) (early 22) (fromCount s work k w h at)
+pub record AfterConnectivity (M : ℕ) (s : List ℕ) (work w h k at : ℕ) : Type 0 where
+  pub parsed : parse M s work ≡ pick (not (connectivityFits k)) (early 22) (fromCount M s work k w h at)
   pub pixels : w * h ≤ maxPixels
 
-pub record AfterCount (s : List ℕ) (work w h k count at : ℕ) : Type 0 where
-  pub parsed : parse s work ≡ pick (ltb work (8 * (w * h))) (early 6) (fromRoot s k w h count at)
+pub record AfterCount (M : ℕ) (s : List ℕ) (work w h k count at : ℕ) : Type 0 where
+  pub parsed : parse M s work ≡ pick (ltb work (8 * (w * h))) (early 6) (fromRoot M s k w h count at)
   pub pixels : w * h ≤ maxPixels
   pub some : 1 ≤ count
   pub most : count ≤ w * h
 
-pub width-stops : (s : List ℕ) (work : ℕ) {number : ℕ} → fieldAt s 0 1 maxExtent ≡ refused number → parse s work ≡ early number
+pub width-stops : (M : ℕ) (s : List ℕ) (work : ℕ) {number : ℕ} → fieldAt s 0 1 maxExtent ≡ refused number → parse M s work ≡ early number
 unfolding parse
-width-stops s work e = rw e
+width-stops M s work e = rw e
 
-module _ {s : List ℕ} {work : ℕ} where
-  pub after-width : {w at : ℕ} → Took s 0 1 maxExtent w at → AfterWidth s work w at
+module _ {M : ℕ} {s : List ℕ} {work : ℕ} where
+  pub after-width : {w at : ℕ} → Took s 0 1 maxExtent w at → AfterWidth M s work w at
   unfolding parse
   after-width a = record { parsed = rw (a .read); wide = a .high }
 
-  module _ {w at : ℕ} (t : AfterWidth s work w at) where
-    pub after-height : {h next : ℕ} → Took s at 1 maxExtent h next → AfterHeight s work w h next
+  module _ {w at : ℕ} (t : AfterWidth M s work w at) where
+    pub after-height : {h next : ℕ} → Took s at 1 maxExtent h next → AfterHeight M s work w h next
     after-height a = record { parsed = t .parsed ∙ rw (a .read); fits = lt-of-le-of-lt (mul-le-mul (t .wide) (a .high)) (lit< tt) }
 
-    pub height-stops : {number : ℕ} → fieldAt s at 1 maxExtent ≡ refused number → parse s work ≡ early number
+    pub height-stops : {number : ℕ} → fieldAt s at 1 maxExtent ≡ refused number → parse M s work ≡ early number
     height-stops e = t .parsed ∙ rw e
 
-  module _ {w h at : ℕ} (t : AfterHeight s work w h at) where
+  module _ {w h at : ℕ} (t : AfterHeight M s work w h at) where
     -- a product beyond the grid
-    pub too-large : maxPixels < w * h → parse s work ≡ early 22
+    pub too-large : maxPixels < w * h → parse M s work ≡ early 22
     too-large l = t .parsed ∙ rw (lt-ltb maxPixels (w * h) l)
 
     module _ (fits : w * h ≤ maxPixels) where
-      pub after-connectivity : {k next : ℕ} → Took s at 0 (fieldBound - 1) k next → AfterConnectivity s work w h k next
+      pub after-connectivity : {k next : ℕ} → Took s at 0 (fieldBound - 1) k next → AfterConnectivity M s work w h k next
       after-connectivity a = record { parsed = t .parsed ∙ rw (le-ltb maxPixels (w * h) fits, a .read); pixels = fits }
 
-      pub connectivity-stops : {number : ℕ} → fieldAt s at 0 (fieldBound - 1) ≡ refused number → parse s work ≡ early number
+      pub connectivity-stops : {number : ℕ} → fieldAt s at 0 (fieldBound - 1) ≡ refused number → parse M s work ≡ early number
       connectivity-stops e = t .parsed ∙ rw (le-ltb maxPixels (w * h) fits, e)
 
-  module _ {w h k at : ℕ} (t : AfterConnectivity s work w h k at) where
+  module _ {w h k at : ℕ} (t : AfterConnectivity M s work w h k at) where
     -- no connectivity
-    pub no-connectivity : connectivityFits k ≡ false → parse s work ≡ early 22
+    pub no-connectivity : connectivityFits k ≡ false → parse M s work ≡ early 22
     no-connectivity e = t .parsed ∙ rw e
 
     module _ (kind : connectivityFits k ≡ true) where
-      pub after-count : {count next : ℕ} → Took s at 1 (w * h) count next → AfterCount s work w h k count next
+      pub after-count : {count next : ℕ} → Took s at 1 (w * h) count next → AfterCount M s work w h k count next
       after-count a = record { parsed = t .parsed ∙ rw (kind, a .read); pixels = t .pixels; some = a .low; most = a .high }
 
-      pub count-stops : {number : ℕ} → fieldAt s at 1 (w * h) ≡ refused number → parse s work ≡ early number
+      pub count-stops : {number : ℕ} → fieldAt s at 1 (w * h) ≡ refused number → parse M s work ≡ early number
       count-stops e = t .parsed ∙ rw (kind, e)
 
-  module _ {w h k count at : ℕ} (t : AfterCount s work w h k count at) where
+  module _ {w h k count at : ℕ} (t : AfterCount M s work w h k count at) where
     -- work space shorter than 8 × pixels
-    pub too-short : {r : ℕ} → r ≡ workRefusal (w * h) work 0 → (r ≡ 0 → ⊥) → parse s work ≡ early r
+    pub too-short : {r : ℕ} → r ≡ workRefusal (w * h) work 0 → (r ≡ 0 → ⊥) → parse M s work ≡ early r
     too-short e x = t .parsed ∙ rw (e, refuse-met (ltb work (8 * (w * h))) 6 (λ u. x (e ∙ u)))
 
-    pub begun : 8 * (w * h) ≤ work → parse s work ≡ fromRoot s k w h count at
+    pub begun : 8 * (w * h) ≤ work → parse M s work ≡ fromRoot M s k w h count at
     begun l = t .parsed ∙ rw (le-ltb work (8 * (w * h)) l)
 
 -- ---- the answer, and the work space after it
@@ -97,8 +97,8 @@ Spells p work work′ r = (parsedBy r work′ ≡ p) × ParsedWork r work work�
 pub early-answer : (p : Parsed) (work : List ℕ) {number : ℕ} → p ≡ early number → Spells p work work (Early number)
 early-answer p work e = (sym e, refl)
 
-module _ (p : Parsed) (k w h : ℕ) {s : List ℕ} {at : ℕ} {work work′ : List ℕ} {count : ℕ} {r : Step}
-    (room : Room work (w * h)) (t : TreeRead s at (w * h) work work′ count r) (e : p ≡ fromRoot s k w h count at) where
+module _ (p : Parsed) (k w h : ℕ) {M : ℕ} {s : List ℕ} {at : ℕ} {work work′ : List ℕ} {count : ℕ} {r : Step}
+    (room : Room work (w * h)) (t : TreeRead M s at (w * h) work work′ count r) (e : p ≡ fromRoot M s k w h count at) where
   parsed : {q : Step} → r ≡ q → treeParsed q k w h (greysIn (w * h) work′) ≡ p
   parsed f = sym (e ∙ t .rest k w h refl ∙ ap (λ (x : Step). treeParsed x k w h (greysIn (w * h) work′)) f)
 

@@ -7,7 +7,7 @@ use native.Mathlib.Omega.{arith}
 use borrow.Author.Tests.{ltb-false, le-leb, not-false}
 use lib.Dec.{ltb}
 use lib.ListN.{length}
-use Rattle.meaning.specs.Plate.{Plate, connectivityFits, greatestGrey, gridFits, maxPixels, maxExtent}
+use Rattle.meaning.specs.Plate.{Plate, connectivityFits, greatestFits, gridFits, maxPixels, maxExtent}
 use Rattle.meaning.specs.Sets.{nth, pick}
 use Rattle.record_varint.specs.Field.{Reading, accepted, fieldAt, fieldBound, refused}
 use Rattle.record_varint.proofs.Reading.{field-read}
@@ -57,40 +57,40 @@ module _ (k w h : ℕ) (f : List ℕ) where
   on-test true refusal number p no-plate e = absurd (no-plate number k w h f e)
   on-test false refusal number p no-plate e = (refl, e)
 
--- ---- levels and greys
+-- ---- levels and greys, which are at most M
 
 -- each number of a list is a grey
-data AllGreys : List ℕ → Type 0 where
-  none : AllGreys []
-  one : {v : ℕ} {vs : List ℕ} → v ≤ greatestGrey → AllGreys vs → AllGreys (v ∷ vs)
+data AllGreys (M : ℕ) : List ℕ → Type 0 where
+  none : AllGreys M []
+  one : {v : ℕ} {vs : List ℕ} → v ≤ M → AllGreys M vs → AllGreys M (v ∷ vs)
 
-greys-nth : {vs : List ℕ} (i : ℕ) → AllGreys vs → nth vs i ≤ greatestGrey
+greys-nth : {M : ℕ} {vs : List ℕ} (i : ℕ) → AllGreys M vs → nth vs i ≤ M
 greys-nth i none = omega arith
 greys-nth zero (one l a) = l
 greys-nth (suc i) (one l a) = greys-nth i a
 
-greys-snoc : {vs : List ℕ} {v : ℕ} → AllGreys vs → v ≤ greatestGrey → AllGreys (vs ++ (v ∷ []))
+greys-snoc : {M : ℕ} {vs : List ℕ} {v : ℕ} → AllGreys M vs → v ≤ M → AllGreys M (vs ++ (v ∷ []))
 greys-snoc none l = one l none
 greys-snoc (one h a) l = one h (greys-snoc a l)
 
-module _ (s : List ℕ) (pixels : ℕ) where
-  levels-greys : (left : ℕ) (levels : List ℕ) (at : ℕ) (vs : List ℕ) (q : ℕ) → AllGreys levels → levelsFrom s pixels left levels at ≡ good vs q
-      → AllGreys vs
+module _ {M : ℕ} (s : List ℕ) (pixels : ℕ) where
+  levels-greys : (left : ℕ) (levels : List ℕ) (at : ℕ) (vs : List ℕ) (q : ℕ) → AllGreys M levels → levelsFrom M s pixels left levels at ≡ good vs q
+      → AllGreys M vs
   unfolding levelsFrom
   levels-greys zero levels at vs q g e = let is : levels ≡ vs = cc in rw is at g
   levels-greys (suc left) levels at vs q g e =
       let back = on-value (fieldAt s at 1 (length levels)) _ vs q e in
       let level = nth levels (length levels - back .v) in
-      let rise = on-value (fieldAt s (back .next) 1 (greatestGrey - level)) _ vs q (back .rest) in
+      let rise = on-value (fieldAt s (back .next) 1 (M - level)) _ vs q (back .rest) in
       let area =
-      on-value (fieldAt s (rise .next) 1 pixels) (λ area at₃. levelsFrom s pixels left (levels ++ ((level + rise .v) ∷ [])) at₃) vs q
+      on-value (fieldAt s (rise .next) 1 pixels) (λ area at₃. levelsFrom M s pixels left (levels ++ ((level + rise .v) ∷ [])) at₃) vs q
       (rise .rest) in
-      let high = field-read s (back .next) 1 (greatestGrey - level) (rise .v) (rise .next) (rise .read) .high in
-      let low : level ≤ greatestGrey = greys-nth (length levels - back .v) g in
+      let high = field-read s (back .next) 1 (M - level) (rise .v) (rise .next) (rise .read) .high in
+      let low : level ≤ M = greys-nth (length levels - back .v) g in
       levels-greys left (levels ++ ((level + rise .v) ∷ [])) (area .next) vs q (greys-snoc g (omega arith)) (area .rest)
 
-  owns-greys : (levels : List ℕ) (left at : ℕ) (vs : List ℕ) (q : ℕ) → AllGreys levels → greysFrom s pixels levels left at ≡ good vs q
-      → AllGreys vs × (length vs ≡ left)
+  owns-greys : (levels : List ℕ) (left at : ℕ) (vs : List ℕ) (q : ℕ) → AllGreys M levels → greysFrom s pixels levels left at ≡ good vs q
+      → AllGreys M vs × (length vs ≡ left)
   unfolding greysFrom
   owns-greys levels zero at vs q g e = let is : vs ≡ [] = cc in rw is (none, refl)
   owns-greys levels (suc left) at vs q g e =
@@ -102,63 +102,64 @@ module _ (s : List ℕ) (pixels : ℕ) where
 -- ---- the whole record
 
 -- parsing gives the plate f of the sizes and the connectivity that were read: k′, w′, h′
-record PlateRead (k′ w′ h′ k w h : ℕ) (f : List ℕ) : Type 0 where
+record PlateRead (M k′ w′ h′ k w h : ℕ) (f : List ℕ) : Type 0 where
   kind : k′ ≡ k
   width : w′ ≡ w
   height : h′ ≡ h
-  greys : AllGreys f
+  greys : AllGreys M f
   long : length f ≡ w′ * h′
 
-spelt-plate : {k′ w′ h′ k w h : ℕ} {f : List ℕ} → PlateRead k′ w′ h′ k w h f → (work : ℕ) → connectivityFits k′ ≡ true → gridFits w′ h′ ≡ true
-    → 8 * (w′ * h′) ≤ work → Plate k w h f × (8 * (w * h) ≤ work)
-spelt-plate {f = f} r work kind sizes room = (
+spelt-plate : {M k′ w′ h′ k w h : ℕ} {f : List ℕ} → PlateRead M k′ w′ h′ k w h f → (work : ℕ) → greatestFits M ≡ true → connectivityFits k′ ≡ true
+    → gridFits w′ h′ ≡ true → 8 * (w′ * h′) ≤ work → Plate k w h M f × (8 * (w * h) ≤ work)
+spelt-plate r work range kind sizes room = (
   record {
     kind = rw (r .kind) at kind;
     sizes = rw (r .width, r .height) at sizes;
+    range = range;
     long = rw (r .width, r .height) at (r .long);
     greys = λ p l. greys-nth p (r .greys);
   },
   rw (r .width, r .height) at room,
 )
 
-module _ (s : List ℕ) (k w h : ℕ) (f : List ℕ) where
-  own-plate : (k′ w′ h′ : ℕ) (levels : List ℕ) (at : ℕ) → AllGreys levels → fromOwn s k′ w′ h′ levels at ≡ plate k w h f
-      → PlateRead k′ w′ h′ k w h f
+module _ (M : ℕ) (s : List ℕ) (k w h : ℕ) (f : List ℕ) where
+  own-plate : (k′ w′ h′ : ℕ) (levels : List ℕ) (at : ℕ) → AllGreys M levels → fromOwn s k′ w′ h′ levels at ≡ plate k w h f
+      → PlateRead M k′ w′ h′ k w h f
   own-plate k′ w′ h′ levels at g e =
       let vs = on-values k w h f (greysFrom s (w′ * h′) levels (w′ * h′) at) (lateOf (w′ * h′)) _ (late-refuses (w′ * h′)) e in
       let end =
       on-test k w h f (ltb (vs .1 .0) (length s)) (lateOf (w′ * h′)) 23 (plate k′ w′ h′ (vs .0)) (late-refuses (w′ * h′)) (vs .1 .1 .1) in
       let a = owns-greys s (w′ * h′) levels (w′ * h′) at (vs .0) (vs .1 .0) g (vs .1 .1 .0) in
       let is : vs .0 ≡ f = cc (end .1) in
-      let b : AllGreys f × (length f ≡ w′ * h′) = rw is at a in
+      let b : AllGreys M f × (length f ≡ w′ * h′) = rw is at a in
       record { kind = cc (end .1); width = cc (end .1); height = cc (end .1); greys = b .0; long = b .1 }
 
-  root-plate : (k′ w′ h′ count at : ℕ) → fromRoot s k′ w′ h′ count at ≡ plate k w h f → PlateRead k′ w′ h′ k w h f
+  root-plate : (k′ w′ h′ count at : ℕ) → fromRoot M s k′ w′ h′ count at ≡ plate k w h f → PlateRead M k′ w′ h′ k w h f
   root-plate k′ w′ h′ count at e =
-      let root = on-field k w h f (fieldAt s at 0 greatestGrey) (lateOf (w′ * h′)) _ (late-refuses (w′ * h′)) e in
+      let root = on-field k w h f (fieldAt s at 0 M) (lateOf (w′ * h′)) _ (late-refuses (w′ * h′)) e in
       let area = on-field k w h f (fieldAt s (root .next) 1 (w′ * h′)) (lateOf (w′ * h′)) _ (late-refuses (w′ * h′)) (root .rest) in
       let nodes =
-      on-values k w h f (levelsFrom s (w′ * h′) (count - 1) (root .v ∷ []) (area .next)) (lateOf (w′ * h′)) (fromOwn s k′ w′ h′)
+      on-values k w h f (levelsFrom M s (w′ * h′) (count - 1) (root .v ∷ []) (area .next)) (lateOf (w′ * h′)) (fromOwn s k′ w′ h′)
       (late-refuses (w′ * h′)) (area .rest) in
-      let low = field-read s at 0 greatestGrey (root .v) (root .next) (root .read) .high in
+      let low = field-read s at 0 M (root .v) (root .next) (root .read) .high in
       own-plate k′ w′ h′ (nodes .0) (nodes .1 .0)
       (levels-greys s (w′ * h′) (count - 1) (root .v ∷ []) (area .next) (nodes .0) (nodes .1 .0) (one low none) (nodes .1 .1 .0)) (nodes .1 .1 .1)
 
-  pub parse-plate : (work : ℕ) → parse s work ≡ plate k w h f → Plate k w h f × (8 * (w * h) ≤ work)
+  pub parse-plate : greatestFits M ≡ true → (work : ℕ) → parse M s work ≡ plate k w h f → Plate k w h M f × (8 * (w * h) ≤ work)
   unfolding parse gridFits
-  parse-plate work e =
-      let width = on-field k w h f (fieldAt s 0 1 maxExtent) early (fromHeight s work) early-refuses e in
+  parse-plate range work e =
+      let width = on-field k w h f (fieldAt s 0 1 maxExtent) early (fromHeight M s work) early-refuses e in
       let w′ = width .v in
       let height = on-field k w h f (fieldAt s (width .next) 1 maxExtent) early _ early-refuses (width .rest) in
       let h′ = height .v in
-      let grid = on-test k w h f (ltb maxPixels (w′ * h′)) early 22 (fromConnectivity s work w′ h′ (height .next)) early-refuses (height .rest) in
+      let grid = on-test k w h f (ltb maxPixels (w′ * h′)) early 22 (fromConnectivity M s work w′ h′ (height .next)) early-refuses (height .rest) in
       let kind = on-field k w h f (fieldAt s (height .next) 0 (fieldBound - 1)) early _ early-refuses (grid .1) in
       let k′ = kind .v in
-      let fit = on-test k w h f (not (connectivityFits k′)) early 22 (fromCount s work k′ w′ h′ (kind .next)) early-refuses (kind .rest) in
+      let fit = on-test k w h f (not (connectivityFits k′)) early 22 (fromCount M s work k′ w′ h′ (kind .next)) early-refuses (kind .rest) in
       let count =
       on-field k w h f (fieldAt s (kind .next) 1 (w′ * h′)) early
-      (λ count next. pick (ltb work (8 * (w′ * h′))) (early 6) (fromRoot s k′ w′ h′ count next)) early-refuses (fit .1) in
-      let room = on-test k w h f (ltb work (8 * (w′ * h′))) early 6 (fromRoot s k′ w′ h′ (count .v) (count .next)) early-refuses (count .rest) in
+      (λ count next. pick (ltb work (8 * (w′ * h′))) (early 6) (fromRoot M s k′ w′ h′ count next)) early-refuses (fit .1) in
+      let room = on-test k w h f (ltb work (8 * (w′ * h′))) early 6 (fromRoot M s k′ w′ h′ (count .v) (count .next)) early-refuses (count .rest) in
       let a = field-read s 0 1 maxExtent w′ (width .next) (width .read) in
       let b = field-read s (width .next) 1 maxExtent h′ (height .next) (height .read) in
       let r = root-plate k′ w′ h′ (count .v) (count .next) (room .1) in
@@ -170,4 +171,4 @@ module _ (s : List ℕ) (k w h : ℕ) (f : List ℕ) where
         le-leb h′ maxExtent (b .high),
         le-leb (w′ * h′) maxPixels (ltb-false maxPixels (w′ * h′) (grid .0)),
       ) in
-      spelt-plate r work (not-false (connectivityFits k′) (fit .0)) sizes (ltb-false work (8 * (w′ * h′)) (room .0))
+      spelt-plate r work range (not-false (connectivityFits k′) (fit .0)) sizes (ltb-false work (8 * (w′ * h′)) (room .0))

@@ -1,11 +1,11 @@
--- The fields of a record taken one after another: SPECIFICATION 6 and 9 up to 23. `readOf` adds 24.
+-- The fields of a record taken one after another: SPECIFICATION 6 and 9 up to 23. `readOf` adds 24. M: the greatest grey.
 use mathlib.Core.Bool.{Bool, true, false, not, _&&_}
 use mathlib.Core.List.{List, [], _∷_, _++_}
 use Prim.Native.Nat.{ℕ, zero, suc, _+_, _-_, _*_}
 use lib.Dec.{ltb, eqb}
 use lib.ListN.{length}
 use Rattle.meaning.specs.Sets.{pick, nth}
-use Rattle.meaning.specs.Plate.{greatestGrey, maxExtent, maxPixels, connectivityFits}
+use Rattle.meaning.specs.Plate.{maxExtent, maxPixels, connectivityFits}
 use Rattle.meaning.specs.Record.{recordOf}
 use Rattle.record_varint.specs.Field.{Reading, accepted, refused, fieldAt, fieldBound}
 
@@ -24,17 +24,18 @@ abbrev pub more : ℕ → Values → Values
 more v (good vs next) = good (v ∷ vs) next
 more v (bad number) = bad number
 
-module _ (s : List ℕ) (pixels : ℕ) where
+module _ (M : ℕ) (s : List ℕ) (pixels : ℕ) where
   -- `left` nodes after those whose levels are known: the step back to the parent's number (1 to the own number), the rise above the parent's
   -- level (1 to the greatest grey minus that level), the area (1 to the pixels). It gives the levels of all nodes
   unfoldable pub levelsFrom : ℕ → List ℕ → ℕ → Values
   levelsFrom zero levels at = good levels at
   levelsFrom (suc left) levels at =
       onValue (fieldAt s at 1 (length levels)) λ back at₁.
-      onValue (fieldAt s at₁ 1 (greatestGrey - nth levels (length levels - back))) λ rise at₂.
+      onValue (fieldAt s at₁ 1 (M - nth levels (length levels - back))) λ rise at₂.
       onValue (fieldAt s at₂ 1 pixels) λ area at₃.
       levelsFrom left (levels ++ ((nth levels (length levels - back) + rise) ∷ [])) at₃
 
+module _ (s : List ℕ) (pixels : ℕ) where
   -- the own nodes of `left` pixels (0 to the count minus 1). It gives the pixels' greys, the levels of their own nodes
   unfoldable pub greysFrom : List ℕ → ℕ → ℕ → Values
   greysFrom levels zero at = good [] at
@@ -67,14 +68,15 @@ module _ (s : List ℕ) where
   fromOwn k w h levels at =
       onValues (greysFrom s (w * h) levels (w * h) at) (lateOf (w * h)) λ f next. pick (ltb next (length s)) (late 23 (w * h)) (plate k w h f)
 
+module _ (M : ℕ) (s : List ℕ) where
   -- the nodes after the root
   abbrev pub fromNodes : (k w h count level at : ℕ) → Parsed
-  fromNodes k w h count level at = onValues (levelsFrom s (w * h) (count - 1) (level ∷ []) at) (lateOf (w * h)) (fromOwn k w h)
+  fromNodes k w h count level at = onValues (levelsFrom M s (w * h) (count - 1) (level ∷ []) at) (lateOf (w * h)) (fromOwn s k w h)
 
   -- root level (0 to the greatest grey), root area (1 to the pixels)
   abbrev pub fromRoot : (k w h count at : ℕ) → Parsed
   fromRoot k w h count at =
-      onField (fieldAt s at 0 greatestGrey) (lateOf (w * h)) λ level at₁.
+      onField (fieldAt s at 0 M) (lateOf (w * h)) λ level at₁.
       onField (fieldAt s at₁ 1 (w * h)) (lateOf (w * h)) λ area at₂. fromNodes k w h count level at₂
 
   -- node count (1 to the pixels); then 6, work space shorter than 8 × pixels
@@ -113,6 +115,6 @@ compared s (late number pixels) = late number pixels
 compared s (plate k w h f) = pick (sameBytes s (recordOf k w h f)) (plate k w h f) (late 24 (w * h))
 
 -- what reading the bytes s with so much work space finds, up to 24
-unfoldable pub readOf : List ℕ → ℕ → Parsed
+unfoldable pub readOf : ℕ → List ℕ → ℕ → Parsed
 unfolding parse recordOf sameBytes
-readOf s work = compared s (parse s work)
+readOf M s work = compared s (parse M s work)

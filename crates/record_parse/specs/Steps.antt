@@ -1,4 +1,5 @@
--- What the answers of this crate's functions say, and what they leave in the work space. n: the pixels; w, w′: the work space before and after.
+-- What the answers of this crate's functions say, and what they leave in the work space. n: the pixels; M: the greatest grey;
+-- w, w′: the work space before and after.
 use mathlib.Core.Path.{_≡_}
 use mathlib.Core.List.{List}
 use Prim.Native.Nat.{ℕ, suc, _-_, _*_, _≤_, _<_}
@@ -7,7 +8,6 @@ use Rattle.record_parse.specs.declared.Parse.the-variants.{Early, Late, 
 use Rattle.record_parse.specs.declared.Step.{Step}
 use Rattle.record_parse.specs.declared.Step.the-variants.{Next, Refused}
 use Rattle.meaning.specs.Sets.{table}
-use Rattle.meaning.specs.Plate.{greatestGrey}
 use Rattle.work_columns.specs.Columns.{Frame, Room, col}
 use Rattle.work_columns.specs.Layout.{LEVEL, greysIn}
 use Rattle.record_parse.specs.Parse.{Parsed, Values, bad, early, fromRoot, good, greysFrom, late, levelsFrom, plate}
@@ -39,23 +39,23 @@ abbrev pub levelsIn : ℕ → List ℕ → ℕ → List ℕ
 levelsIn n w count = table count (col LEVEL n w)
 
 -- the levels of the first `count` nodes are stored
-pub record Known (n : ℕ) (w : List ℕ) (count : ℕ) : Type 0 where
+pub record Known (n M : ℕ) (w : List ℕ) (count : ℕ) : Type 0 where
   pub room : Room w n
   pub some : 1 ≤ count
   pub most : count ≤ n
-  pub levels : (j : ℕ) → j < count → col LEVEL n w j ≤ greatestGrey
+  pub levels : (j : ℕ) → j < count → col LEVEL n w j ≤ M
 
 -- node i is read at the position `at`: the rest goes on with its level
-pub record NodeRead (s : List ℕ) (at n : ℕ) (w w′ : List ℕ) (i : ℕ) (r : Step) : Type 0 where
+pub record NodeRead (M : ℕ) (s : List ℕ) (at n : ℕ) (w w′ : List ℕ) (i : ℕ) (r : Step) : Type 0 where
   pub frame : Frame n w w′
-  pub known : (next : ℕ) → r ≡ Next next → Known n w′ (suc i)
-  pub rest : (left : ℕ) → levelsFrom s n (suc left) (levelsIn n w i) at ≡ onStep r (levelsFrom s n left (levelsIn n w′ (suc i)))
+  pub known : (next : ℕ) → r ≡ Next next → Known n M w′ (suc i)
+  pub rest : (left : ℕ) → levelsFrom M s n (suc left) (levelsIn n w i) at ≡ onStep r (levelsFrom M s n left (levelsIn n w′ (suc i)))
 
 -- all nodes after the root are read
-pub record NodesRead (s : List ℕ) (at n : ℕ) (w w′ : List ℕ) (count : ℕ) (r : Step) : Type 0 where
+pub record NodesRead (M : ℕ) (s : List ℕ) (at n : ℕ) (w w′ : List ℕ) (count : ℕ) (r : Step) : Type 0 where
   pub frame : Frame n w w′
-  pub known : (next : ℕ) → r ≡ Next next → Known n w′ count
-  pub rest : levelsFrom s n (count - 1) (levelsIn n w 1) at ≡ onStep r (good (levelsIn n w′ count))
+  pub known : (next : ℕ) → r ≡ Next next → Known n M w′ count
+  pub rest : levelsFrom M s n (count - 1) (levelsIn n w 1) at ≡ onStep r (good (levelsIn n w′ count))
 
 -- the own nodes are read
 pub record GreysRead (s : List ℕ) (at n : ℕ) (w w′ : List ℕ) (count : ℕ) (r : Step) : Type 0 where
@@ -67,6 +67,6 @@ abbrev pub treeParsed : Step → (k w h : ℕ) → List ℕ → Parsed
 treeParsed (Next next) k w h f = plate k w h f
 treeParsed (Refused number) k w h f = late number (w * h)
 
-pub record TreeRead (s : List ℕ) (at n : ℕ) (w w′ : List ℕ) (count : ℕ) (r : Step) : Type 0 where
+pub record TreeRead (M : ℕ) (s : List ℕ) (at n : ℕ) (w w′ : List ℕ) (count : ℕ) (r : Step) : Type 0 where
   pub frame : Frame n w w′
-  pub rest : (k wd ht : ℕ) → wd * ht ≡ n → fromRoot s k wd ht count at ≡ treeParsed r k wd ht (greysIn n w′)
+  pub rest : (k wd ht : ℕ) → wd * ht ≡ n → fromRoot M s k wd ht count at ≡ treeParsed r k wd ht (greysIn n w′)

@@ -28,16 +28,16 @@ pub enum Step {
 }
 
 // Reads node i, after the root, and stores its level.
-fn read_node(s: &[u8], at: usize, work: &mut [u32], n: usize, i: usize) -> Step
-    requires { ⌜ Known n (now work) i × (i < n) ⌝ }
-    ensures { λ r. ⌜ NodeRead (now (s .entry)) at n (now (work .entry)) (now (work .exit)) i r ⌝ }
+fn read_node(s: &[u8], at: usize, work: &mut [u32], n: usize, greatest: u32, i: usize) -> Step
+    requires { ⌜ Known n greatest (now work) i × (i < n) ⌝ }
+    ensures { λ r. ⌜ NodeRead greatest (now (s .entry)) at n (now (work .entry)) (now (work .exit)) i r ⌝ }
 {
     let f1 = record_varint::read_field(s, at, 1, i as u32);
     let Field::Value(back, at1) = f1 else {
         return Step::Refused(record_varint::refusal(f1));
     };
     let level = work_columns::get(work, n, LEVEL, i - back as usize);
-    let f2 = record_varint::read_field(s, at1, 1, (255 - level) as u32);
+    let f2 = record_varint::read_field(s, at1, 1, greatest - level as u32);
     let Field::Value(rise, at2) = f2 else {
         return Step::Refused(record_varint::refusal(f2));
     };
@@ -50,14 +50,21 @@ fn read_node(s: &[u8], at: usize, work: &mut [u32], n: usize, i: usize) -> Step
 }
 
 // Reads the nodes after the root, whose level is stored, and stores their levels.
-fn read_nodes(s: &[u8], start: usize, work: &mut [u32], n: usize, count: usize) -> Step
-    requires { ⌜ Known n (now work) 1 × ((1 ≤ count) × (count ≤ n)) ⌝ }
-    ensures { λ r. ⌜ NodesRead (now (s .entry)) start n (now (work .entry)) (now (work .exit)) count r ⌝ }
+fn read_nodes(
+    s: &[u8],
+    start: usize,
+    work: &mut [u32],
+    n: usize,
+    greatest: u32,
+    count: usize,
+) -> Step
+    requires { ⌜ Known n greatest (now work) 1 × ((1 ≤ count) × (count ≤ n)) ⌝ }
+    ensures { λ r. ⌜ NodesRead greatest (now (s .entry)) start n (now (work .entry)) (now (work .exit)) count r ⌝ }
 {
     let mut i: usize = 1;
     let mut at = start;
     while i < count {
-        let node = read_node(s, at, work, n, i);
+        let node = read_node(s, at, work, n, greatest, i);
         let Step::Next(next) = node else {
             return node;
         };
@@ -69,7 +76,7 @@ fn read_nodes(s: &[u8], start: usize, work: &mut [u32], n: usize, count: usize) 
 
 // Reads the pixels' own nodes, whose levels are stored, and stores the greys.
 fn read_greys(s: &[u8], start: usize, work: &mut [u32], n: usize, count: usize) -> Step
-    requires { ⌜ Known n (now work) count ⌝ }
+    requires { ⌜ Room (now work) n × ((1 ≤ count) × (count ≤ n)) ⌝ }
     ensures { λ r. ⌜ GreysRead (now (s .entry)) start n (now (work .entry)) (now (work .exit)) count r ⌝ }
 {
     let last = (count - 1) as u32;
@@ -89,11 +96,18 @@ fn read_greys(s: &[u8], start: usize, work: &mut [u32], n: usize, count: usize) 
 }
 
 // Reads what follows the node count: root level, root area, the other nodes, the own nodes, and the end.
-fn read_tree_fields(s: &[u8], at: usize, work: &mut [u32], n: usize, count: usize) -> Step
+fn read_tree_fields(
+    s: &[u8],
+    at: usize,
+    work: &mut [u32],
+    n: usize,
+    greatest: u32,
+    count: usize,
+) -> Step
     requires { ⌜ Room (now work) n × ((1 ≤ count) × (count ≤ n)) ⌝ }
-    ensures { λ r. ⌜ TreeRead (now (s .entry)) at n (now (work .entry)) (now (work .exit)) count r ⌝ }
+    ensures { λ r. ⌜ TreeRead greatest (now (s .entry)) at n (now (work .entry)) (now (work .exit)) count r ⌝ }
 {
-    let f1 = record_varint::read_field(s, at, 0, 255);
+    let f1 = record_varint::read_field(s, at, 0, greatest);
     let Field::Value(level, at1) = f1 else {
         return Step::Refused(record_varint::refusal(f1));
     };
@@ -102,7 +116,7 @@ fn read_tree_fields(s: &[u8], at: usize, work: &mut [u32], n: usize, count: usiz
         return Step::Refused(record_varint::refusal(f2));
     };
     work_columns::put(work, n, LEVEL, 0, level as usize);
-    let nodes = read_nodes(s, at2, work, n, count);
+    let nodes = read_nodes(s, at2, work, n, greatest, count);
     let Step::Next(at3) = nodes else {
         return nodes;
     };
@@ -116,9 +130,9 @@ fn read_tree_fields(s: &[u8], at: usize, work: &mut [u32], n: usize, count: usiz
     Step::Next(at4)
 }
 
-// Parses a record, up to refusal 23. The greys of the plate stand in the work space's first column.
-pub fn parse_record(s: &[u8], work: &mut [u32]) -> Parse
-    ensures { λ r. ⌜ parsedBy r (now (work .exit)) ≡ parse (now (s .entry)) (length (now (work .entry))) ⌝ }
+// Parses a record of greys up to `greatest`, up to refusal 23. The greys of the plate stand in the work space's first column.
+pub fn parse_record(s: &[u8], greatest: u32, work: &mut [u32]) -> Parse
+    ensures { λ r. ⌜ parsedBy r (now (work .exit)) ≡ parse greatest (now (s .entry)) (length (now (work .entry))) ⌝ }
     ensures { λ r. ⌜ ParsedWork r (now (work .entry)) (now (work .exit)) ⌝ }
 {
     let f1 = record_varint::read_field(s, 0, 1, 32768);
@@ -149,7 +163,7 @@ pub fn parse_record(s: &[u8], work: &mut [u32]) -> Parse
     if space != 0 {
         return Parse::Early(space);
     }
-    let tree = read_tree_fields(s, at4, work, n, count as usize);
+    let tree = read_tree_fields(s, at4, work, n, greatest, count as usize);
     if let Step::Refused(number) = tree {
         return Parse::Late(number, n);
     }

@@ -7,7 +7,7 @@ use native.Mathlib.Omega.{arith}
 use lib.Dec.{eqb, leb, ltb}
 use lib.ListN.{length, drop}
 use borrow.Author.Tests.{eqb-true}
-use Rattle.meaning.specs.Plate.{Plate, connectivityFits, greatestGrey, maxPixels, maxExtent}
+use Rattle.meaning.specs.Plate.{Plate, connectivityFits, greatestFits, maxPixels, maxExtent}
 use Rattle.meaning.specs.Record.{recordOf, varint}
 use Rattle.meaning.specs.Sets.{nth, pick}
 use Rattle.theory_lists.proofs.Tests.{both-true, passes}
@@ -69,20 +69,20 @@ on-test : (b : Bool) (p q : Parsed) → Numbered p → Numbered q → Numbered (
 on-test true p q x y = x
 on-test false p q x y = y
 
-module _ (s : List ℕ) where
+module _ (M : ℕ) (s : List ℕ) where
   at-field : (at lo hi : ℕ) → NumberedField (fieldAt s at lo hi)
   at-field at lo hi = field-numbered (drop at s) at lo hi
 
-  levels-numbered : (pixels left : ℕ) (levels : List ℕ) (at : ℕ) → NumberedValues (levelsFrom s pixels left levels at)
+  levels-numbered : (pixels left : ℕ) (levels : List ℕ) (at : ℕ) → NumberedValues (levelsFrom M s pixels left levels at)
   unfolding levelsFrom
   levels-numbered pixels zero levels at = tt
   levels-numbered pixels (suc left) levels at =
       let level : ℕ → ℕ = λ (back : ℕ). nth levels (length levels - back) in
-      let node : ℕ → ℕ → ℕ → ℕ → Values = λ back rise area at₃. levelsFrom s pixels left (levels ++ ((level back + rise) ∷ [])) at₃ in
+      let node : ℕ → ℕ → ℕ → ℕ → Values = λ back rise area at₃. levelsFrom M s pixels left (levels ++ ((level back + rise) ∷ [])) at₃ in
       let sized : ℕ → ℕ → ℕ → Values = λ back rise at₂. onValue (fieldAt s at₂ 1 pixels) (node back rise) in
-      let raised : ℕ → ℕ → Values = λ back at₁. onValue (fieldAt s at₁ 1 (greatestGrey - level back)) (sized back) in
+      let raised : ℕ → ℕ → Values = λ back at₁. onValue (fieldAt s at₁ 1 (M - level back)) (sized back) in
       value-numbered (fieldAt s at 1 (length levels)) raised (at-field at 1 (length levels)) λ back at₁.
-      value-numbered (fieldAt s at₁ 1 (greatestGrey - level back)) (sized back) (at-field at₁ 1 (greatestGrey - level back)) λ rise at₂.
+      value-numbered (fieldAt s at₁ 1 (M - level back)) (sized back) (at-field at₁ 1 (M - level back)) λ rise at₂.
       value-numbered (fieldAt s at₂ 1 pixels) (node back rise) (at-field at₂ 1 pixels) λ area at₃.
       levels-numbered pixels left (levels ++ ((level back + rise) ∷ [])) at₃
 
@@ -100,45 +100,45 @@ module _ (s : List ℕ) where
       on-values (greysFrom s (w * h) levels (w * h) at) (lateOf (w * h)) end (λ number l. l) (greys-numbered (w * h) levels (w * h) at) λ f next.
       on-test (ltb next (length s)) (late 23 (w * h)) (plate k w h f) (omega arith) tt
 
-  root-numbered : (k w h count at : ℕ) → Numbered (fromRoot s k w h count at)
+  root-numbered : (k w h count at : ℕ) → Numbered (fromRoot M s k w h count at)
   root-numbered k w h count at =
-      let nodes : ℕ → ℕ → ℕ → Parsed = λ level area at₂. fromNodes s k w h count level at₂ in
+      let nodes : ℕ → ℕ → ℕ → Parsed = λ level area at₂. fromNodes M s k w h count level at₂ in
       let sized : ℕ → ℕ → Parsed = λ level at₁. onField (fieldAt s at₁ 1 (w * h)) (lateOf (w * h)) (nodes level) in
-      on-field (fieldAt s at 0 greatestGrey) (lateOf (w * h)) sized (λ number l. l) (at-field at 0 greatestGrey) λ level at₁.
+      on-field (fieldAt s at 0 M) (lateOf (w * h)) sized (λ number l. l) (at-field at 0 M) λ level at₁.
       on-field (fieldAt s at₁ 1 (w * h)) (lateOf (w * h)) (nodes level) (λ number l. l) (at-field at₁ 1 (w * h)) λ area at₂.
-      on-values (levelsFrom s (w * h) (count - 1) (level ∷ []) at₂) (lateOf (w * h)) (fromOwn s k w h) (λ number l. l)
+      on-values (levelsFrom M s (w * h) (count - 1) (level ∷ []) at₂) (lateOf (w * h)) (fromOwn s k w h) (λ number l. l)
       (levels-numbered (w * h) (count - 1) (level ∷ []) at₂) (own-numbered k w h)
 
-  count-numbered : (work k w h at : ℕ) → Numbered (fromCount s work k w h at)
+  count-numbered : (work k w h at : ℕ) → Numbered (fromCount M s work k w h at)
   count-numbered work k w h at =
-      let root : ℕ → ℕ → Parsed = λ count next. pick (ltb work (8 * (w * h))) (early 6) (fromRoot s k w h count next) in
+      let root : ℕ → ℕ → Parsed = λ count next. pick (ltb work (8 * (w * h))) (early 6) (fromRoot M s k w h count next) in
       on-field (fieldAt s at 1 (w * h)) early root (λ number l. l) (at-field at 1 (w * h)) λ count next.
-      on-test (ltb work (8 * (w * h))) (early 6) (fromRoot s k w h count next) (omega arith) (root-numbered k w h count next)
+      on-test (ltb work (8 * (w * h))) (early 6) (fromRoot M s k w h count next) (omega arith) (root-numbered k w h count next)
 
-  connectivity-numbered : (work w h at : ℕ) → Numbered (fromConnectivity s work w h at)
+  connectivity-numbered : (work w h at : ℕ) → Numbered (fromConnectivity M s work w h at)
   connectivity-numbered work w h at =
-      let rest : ℕ → ℕ → Parsed = λ k next. pick (not (connectivityFits k)) (early 22) (fromCount s work k w h next) in
+      let rest : ℕ → ℕ → Parsed = λ k next. pick (not (connectivityFits k)) (early 22) (fromCount M s work k w h next) in
       on-field (fieldAt s at 0 (fieldBound - 1)) early rest (λ number l. l) (at-field at 0 (fieldBound - 1)) λ k next.
-      on-test (not (connectivityFits k)) (early 22) (fromCount s work k w h next) (omega arith) (count-numbered work k w h next)
+      on-test (not (connectivityFits k)) (early 22) (fromCount M s work k w h next) (omega arith) (count-numbered work k w h next)
 
-  height-numbered : (work w at : ℕ) → Numbered (fromHeight s work w at)
+  height-numbered : (work w at : ℕ) → Numbered (fromHeight M s work w at)
   height-numbered work w at =
-      let rest : ℕ → ℕ → Parsed = λ h next. pick (ltb maxPixels (w * h)) (early 22) (fromConnectivity s work w h next) in
+      let rest : ℕ → ℕ → Parsed = λ h next. pick (ltb maxPixels (w * h)) (early 22) (fromConnectivity M s work w h next) in
       on-field (fieldAt s at 1 maxExtent) early rest (λ number l. l) (at-field at 1 maxExtent) λ h next.
-      on-test (ltb maxPixels (w * h)) (early 22) (fromConnectivity s work w h next) (omega arith) (connectivity-numbered work w h next)
+      on-test (ltb maxPixels (w * h)) (early 22) (fromConnectivity M s work w h next) (omega arith) (connectivity-numbered work w h next)
 
-  parse-numbered : (work : ℕ) → Numbered (parse s work)
+  parse-numbered : (work : ℕ) → Numbered (parse M s work)
   unfolding parse
-  parse-numbered work = on-field (fieldAt s 0 1 maxExtent) early (fromHeight s work) (λ number l. l) (at-field 0 1 maxExtent) (height-numbered work)
+  parse-numbered work = on-field (fieldAt s 0 1 maxExtent) early (fromHeight M s work) (λ number l. l) (at-field 0 1 maxExtent) (height-numbered work)
 
   compared-numbered : (P : Parsed) → Numbered P → Numbered (compared s P)
   compared-numbered (early number) l = l
   compared-numbered (late number pixels) l = l
   compared-numbered (plate k w h f) l = on-test (sameBytes s (recordOf k w h f)) (plate k w h f) (late 24 (w * h)) tt (omega arith)
 
-  pub read-numbered : (work : ℕ) → Numbered (readOf s work)
+  pub read-numbered : (work : ℕ) → Numbered (readOf M s work)
   unfolding readOf
-  read-numbered work = compared-numbered (parse s work) (parse-numbered work)
+  read-numbered work = compared-numbered (parse M s work) (parse-numbered work)
 
 -- ---- what is accepted
 
@@ -163,10 +163,10 @@ taken s (plate k′ w′ h′ f′) k w h f e = go (sameBytes s (recordOf k′ w
     go false q e = let z : _≡_ {A = ℕ} 0 1 = cc in absurd (omega arith)
 
 -- bytes that are read as a plate are that plate's record; the plate is accepted, and its work space was there
-pub read-exact : (s : List ℕ) (work k w h : ℕ) (f : List ℕ) → readOf s work ≡ plate k w h f
-    → (s ≡ recordOf k w h f) × Plate k w h f × (8 * (w * h) ≤ work)
+pub read-exact : (M : ℕ) → greatestFits M ≡ true → (s : List ℕ) (work k w h : ℕ) (f : List ℕ) → readOf M s work ≡ plate k w h f
+    → (s ≡ recordOf k w h f) × Plate k w h M f × (8 * (w * h) ≤ work)
 unfolding readOf
-read-exact s work k w h f e =
-    let t = taken s (parse s work) k w h f e in
-    let p = parse-plate s k w h f work (t .0) in
+read-exact M range s work k w h f e =
+    let t = taken s (parse M s work) k w h f e in
+    let p = parse-plate M s k w h f range work (t .0) in
     (t .1, p .0, p .1)

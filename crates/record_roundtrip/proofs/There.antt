@@ -10,13 +10,14 @@ use lib.ListN.{length, drop, length-drop}
 use Rattle.meaning.specs.Component.{grown, same}
 use Rattle.meaning.specs.Nodes.{areaOf, holds, levelOf, nodesOf, own, parent, rise}
 use Rattle.meaning.specs.Paths.{Grid}
-use Rattle.meaning.specs.Plate.{Plate, greatestGrey, grey, maxPixels, maxExtent, touch}
+use Rattle.meaning.specs.Plate.{Plate, grey, maxGreatest, maxPixels, maxExtent, touch}
 use Rattle.meaning.specs.Record.{encode, fields, nodeFields, recordOf, treeFields, varint}
 use Rattle.meaning.specs.Sets.{area, elem, gather, nth, place, span, sum, table}
 use Rattle.theory_lists.proofs.Lists.{distinct-area, gather-cong, getD-table, length-table, table-suc}
 use Rattle.theory_lists.proofs.Sets.{area-le}
 use Rattle.theory_lists.proofs.Sums.{area-pos}
 use Rattle.theory_connectivity.proofs.Connectivity.{kind-most}
+use Rattle.theory_connectivity.proofs.Sizes.{greatest-range}
 use Rattle.theory_tree.specs.Tree.{Nodes}
 use Rattle.theory_tree.proofs.Nodes.{nodes-distinct, nth-inside, over-holds, own-below, own-level, parent-below, parent-level, root-area, self-over, some-node}
 use Rattle.theorems.proofs.Plates.{plate-grid, plate-nodes, plate-sizes, plate-some, table-grey}
@@ -38,7 +39,7 @@ gather-first (suc m) g = ap (λ (l : List ℕ). l ++ g (suc m)) (gather-first m 
 abbrev EncodedAt : List ℕ → ℕ → List ℕ → Type 0
 EncodedAt s at vs = drop at s ≡ encode vs ++ []
 
-module _ {k w h : ℕ} {f : List ℕ} (pl : Plate k w h f) (s : List ℕ) where
+module _ {k w h M : ℕ} {f : List ℕ} (pl : Plate k w h M f) (s : List ℕ) where
   abbrev n : ℕ
   n = length f
 
@@ -66,7 +67,10 @@ module _ {k w h : ℕ} {f : List ℕ} (pl : Plate k w h f) (s : List ℕ) where
   few : n ≤ 16777216
   few = omega (arith, pl .long, plate-sizes pl .few-pixels)
 
-  level-low : (i : ℕ) → i < length xs → level i ≤ greatestGrey
+  greatest-low : M ≤ maxGreatest
+  greatest-low = greatest-range M (pl .range) .most
+
+  level-low : (i : ℕ) → i < length xs → level i ≤ M
   level-low i l = pl .greys (nth xs i) (nth-inside grid nodes i l)
 
   size-low : (i : ℕ) → i < length xs → (1 ≤ size i) × (size i ≤ n)
@@ -83,13 +87,13 @@ module _ {k w h : ℕ} {f : List ℕ} (pl : Plate k w h f) (s : List ℕ) where
 
   record Through (left : ℕ) (levels : List ℕ) (at : ℕ) (rest : List ℕ) : Type 0 where
     next : ℕ
-    reads : levelsFrom s n left levels at ≡ good (table (length xs) level) next
+    reads : levelsFrom M s n left levels at ≡ good (table (length xs) level) next
     stands : EncodedAt s next rest
 
   -- one node's three fields
   record Node (left i at : ℕ) (rest : List ℕ) : Type 0 where
     next : ℕ
-    reads : levelsFrom s n (suc left) (table i level) at ≡ levelsFrom s n left (table (suc i) level) next
+    reads : levelsFrom M s n (suc left) (table i level) at ≡ levelsFrom M s n left (table (suc i) level) next
     stands : EncodedAt s next rest
 
   one-node : (left i at : ℕ) (rest : List ℕ) → 0 < i → i < length xs
@@ -102,7 +106,7 @@ module _ {k w h : ℕ} {f : List ℕ} (pl : Plate k w h f) (s : List ℕ) where
       let long : length lv ≡ i = length-table i level in
       let below : up i < i = parent-below grid nodes i pos in
       let darker : level (up i) < level i = parent-level grid nodes i pos l in
-      let high : level i ≤ greatestGrey = level-low i l in
+      let high : level i ≤ M = level-low i l in
       let area = size-low i l in
       let place : length lv - back ≡ up i = omega arith in
       let parent-level-is : nth lv (length lv - back) ≡ level (up i) = ap (nth lv) place ∙ getD-table i level (up i) 0 below in
@@ -112,8 +116,8 @@ module _ {k w h : ℕ} {f : List ℕ} (pl : Plate k w h f) (s : List ℕ) where
       let r₁ : fieldAt s at 1 (length lv) ≡ accepted back at₁ =
       encode-read s at back (rise ∷ size i ∷ rest) [] st 1 (length lv) (omega (arith, count-low, few)) (omega arith) (omega arith) in
       let st₁ : EncodedAt s at₁ (rise ∷ size i ∷ rest) = encode-rest s at back (rise ∷ size i ∷ rest) [] st in
-      let r₂ : fieldAt s at₁ 1 (greatestGrey - nth lv (length lv - back)) ≡ accepted rise at₂ =
-      encode-read s at₁ rise (size i ∷ rest) [] st₁ 1 (greatestGrey - nth lv (length lv - back)) (omega arith) (omega arith) (omega arith) in
+      let r₂ : fieldAt s at₁ 1 (M - nth lv (length lv - back)) ≡ accepted rise at₂ =
+      encode-read s at₁ rise (size i ∷ rest) [] st₁ 1 (M - nth lv (length lv - back)) (omega (arith, greatest-low)) (omega arith) (omega arith) in
       let st₂ : EncodedAt s at₂ (size i ∷ rest) = encode-rest s at₁ rise (size i ∷ rest) [] st₁ in
       let r₃ : fieldAt s at₂ 1 n ≡ accepted (size i) at₃ =
       encode-read s at₂ (size i) rest [] st₂ 1 n (omega (arith, few, area)) (area .0) (area .1) in
@@ -184,7 +188,7 @@ module _ {k w h : ℕ} {f : List ℕ} (pl : Plate k w h f) (s : List ℕ) where
 
 -- ---- the whole record
 
-module _ {k w h : ℕ} {f : List ℕ} (pl : Plate k w h f) where
+module _ {k w h M : ℕ} {f : List ℕ} (pl : Plate k w h M f) where
   abbrev bytes : List ℕ
   bytes = recordOf k w h f
 
@@ -215,7 +219,7 @@ module _ {k w h : ℕ} {f : List ℕ} (pl : Plate k w h f) where
       ∙ ap (λ (l : List ℕ). encode (w ∷ h ∷ k ∷ count ∷ root ∷ l) ++ [])
       (ap (λ (a : ℕ). a ∷ (gather (count - 1) (λ (i : ℕ). g (suc i)) ++ fields-own)) area ∙ ap (λ (l : List ℕ). w * h ∷ (l ++ fields-own)) same)
 
-  pub parse-there : (work : ℕ) → 8 * (w * h) ≤ work → parse bytes work ≡ plate k w h f
+  pub parse-there : (work : ℕ) → 8 * (w * h) ≤ work → parse M bytes work ≡ plate k w h f
   unfolding parse table
   parse-there work room =
       let sz = plate-sizes pl in
@@ -230,7 +234,7 @@ module _ {k w h : ℕ} {f : List ℕ} (pl : Plate k w h f) where
       let at₆ : ℕ = at₅ + length (varint (w * h)) in
       let kind : k ≤ 8 = kind-most k (pl .kind) in
       let few-nodes : count ≤ w * h = omega (arith, count-low pl bytes, pl .long) in
-      let dark : root ≤ greatestGrey = level-low pl bytes 0 some-nodes in
+      let dark : root ≤ M = level-low pl bytes 0 some-nodes in
       let r₁ : fieldAt bytes 0 1 maxExtent ≡ accepted w at₁ =
       encode-read bytes 0 w (h ∷ rest₂) [] st₀ 1 maxExtent (omega (arith, sz .wide .most)) (sz .wide .least) (sz .wide .most) in
       let st₁ : EncodedAt bytes at₁ (h ∷ rest₂) = encode-rest bytes 0 w (h ∷ rest₂) [] st₀ in
@@ -243,8 +247,8 @@ module _ {k w h : ℕ} {f : List ℕ} (pl : Plate k w h f) where
       let r₄ : fieldAt bytes at₃ 1 (w * h) ≡ accepted count at₄ =
       encode-read bytes at₃ count rest₃ [] st₃ 1 (w * h) (omega (arith, sz .few-pixels)) some-nodes few-nodes in
       let st₄ : EncodedAt bytes at₄ rest₃ = encode-rest bytes at₃ count rest₃ [] st₃ in
-      let r₅ : fieldAt bytes at₄ 0 greatestGrey ≡ accepted root at₅ =
-      encode-read bytes at₄ root (w * h ∷ fields-nodes) [] st₄ 0 greatestGrey (omega arith) (omega arith) dark in
+      let r₅ : fieldAt bytes at₄ 0 M ≡ accepted root at₅ =
+      encode-read bytes at₄ root (w * h ∷ fields-nodes) [] st₄ 0 M (omega (arith, dark, greatest-low pl bytes)) (omega arith) dark in
       let st₅ : EncodedAt bytes at₅ (w * h ∷ fields-nodes) = encode-rest bytes at₄ root (w * h ∷ fields-nodes) [] st₄ in
       let r₆ : fieldAt bytes at₅ 1 (w * h) ≡ accepted (w * h) at₆ =
       encode-read bytes at₅ (w * h) fields-nodes [] st₅ 1 (w * h) (omega (arith, sz .few-pixels)) (omega (arith, plate-some pl, pl .long))
@@ -252,9 +256,9 @@ module _ {k w h : ℕ} {f : List ℕ} (pl : Plate k w h f) where
       let st₆ : EncodedAt bytes at₆ fields-nodes = encode-rest bytes at₅ (w * h) fields-nodes [] st₅ in
       let thr = levels-there pl bytes (count - 1) 1 at₆ fields-own (omega (arith, some-nodes)) (omega arith) st₆ in
       let spl = greys-there pl bytes (length f) 0 (thr .next) (zero-add (length f)) (thr .stands) in
-      let r₇ : levelsFrom bytes (w * h) (count - 1) (root ∷ []) at₆ ≡ good (table count (levelOf (length f) (touch k w) (grey f) (nodesOf k w f)))
+      let r₇ : levelsFrom M bytes (w * h) (count - 1) (root ∷ []) at₆ ≡ good (table count (levelOf (length f) (touch k w) (grey f) (nodesOf k w f)))
       (thr .next) =
-      ap (λ (m : ℕ). levelsFrom bytes m (count - 1) (root ∷ []) at₆) (sym (pl .long)) ∙ thr .reads in
+      ap (λ (m : ℕ). levelsFrom M bytes m (count - 1) (root ∷ []) at₆) (sym (pl .long)) ∙ thr .reads in
       let r₈ : greysFrom bytes (w * h) (table count (levelOf (length f) (touch k w) (grey f) (nodesOf k w f))) (w * h) (thr .next) ≡ good f (spl .next) =
       ap (λ (m : ℕ). greysFrom bytes m (table count (levelOf (length f) (touch k w) (grey f) (nodesOf k w f))) m (thr .next)) (sym (pl .long))
       ∙ spl .reads ∙ ap (λ (l : List ℕ). good l (spl .next)) (table-grey f) in
@@ -282,13 +286,13 @@ bytes-same [] = refl
 bytes-same (x ∷ xs) = rw (eq-eqb x x refl, bytes-same xs)
 
 -- a plate's record, given its space, is read as that plate
-pub read-there : {k w h : ℕ} {f : List ℕ} → Plate k w h f → (work : ℕ) → 8 * (w * h) ≤ work → readOf (recordOf k w h f) work ≡ plate k w h f
+pub read-there : {k w h M : ℕ} {f : List ℕ} → Plate k w h M f → (work : ℕ) → 8 * (w * h) ≤ work → readOf M (recordOf k w h f) work ≡ plate k w h f
 unfolding readOf
-read-there {k} {w} {h} {f} pl work room = rw (parse-there pl work room, bytes-same (recordOf k w h f))
+read-there {k} {w} {h} {f = f} pl work room = rw (parse-there pl work room, bytes-same (recordOf k w h f))
 
 -- two plates with one record are one
-pub record-injective : {k k′ w w′ h h′ : ℕ} {f f′ : List ℕ} → Plate k w h f → Plate k′ w′ h′ f′ → recordOf k w h f ≡ recordOf k′ w′ h′ f′
+pub record-injective : {k k′ w w′ h h′ M : ℕ} {f f′ : List ℕ} → Plate k w h M f → Plate k′ w′ h′ M f′ → recordOf k w h f ≡ recordOf k′ w′ h′ f′
     → plate k w h f ≡ plate k′ w′ h′ f′
-record-injective {k} {k′} {w} {w′} {h} {h′} {f} {f′} pl pl′ e =
+record-injective {k} {k′} {w} {w′} {h} {h′} {M} {f} {f′} pl pl′ e =
     let work : ℕ = 8 * (w * h) + 8 * (w′ * h′) in
-    sym (parse-there pl work (omega arith)) ∙ ap (λ (s : List ℕ). parse s work) e ∙ parse-there pl′ work (omega arith)
+    sym (parse-there pl work (omega arith)) ∙ ap (λ (s : List ℕ). parse M s work) e ∙ parse-there pl′ work (omega arith)

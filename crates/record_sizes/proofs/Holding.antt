@@ -13,7 +13,7 @@ use Rattle.work_columns.specs.Layout.{ATTRIBUTE}
 use Rattle.work_columns.specs.declared.Shape.{Shape}
 use Rattle.maxtree_columns.specs.Tree.{Attributed}
 use Rattle.maxtree_columns.proofs.Tree.{some-nodes}
-use Rattle.record_sizes.specs.Sizes.{heldBy, heldOf, lossOf}
+use Rattle.record_sizes.specs.Sizes.{heldBy, heldOf, lossOf, mostLost}
 use Rattle.record_sizes.proofs.Listing.{listed-held, loss-low}
 
 -- ---- node j, whose attribute is a
@@ -42,20 +42,20 @@ module _ {g : Shape} {f w : List ℕ} {count : ℕ} (t : Attributed g f w count)
   unfolding heldBy sum
   held-more k = refl
 
-  held-low : (k : ℕ) → k < count → heldBy (g .pixels) w k ≤ k * 4278190080
+  held-low : (k : ℕ) → k < count → heldBy (g .pixels) w k ≤ k * mostLost
   unfolding heldBy sum
   held-low zero l = omega arith
   held-low (suc k) l =
       omega (
         arith,
-        suc-mul k 4278190080,
+        suc-mul k mostLost,
         held-low k (omega arith),
-        pick-le (leb (g .pixels) (col ATTRIBUTE (g .pixels) w (suc k))) (lossOf (g .pixels) w (suc k)) 4278190080
+        pick-le (leb (g .pixels) (col ATTRIBUTE (g .pixels) w (suc k))) (lossOf (g .pixels) w (suc k)) mostLost
             (λ b. loss-low (t .tree) (suc k) (omega arith) l),
       )
 
   module _ {r j : ℕ} (a : Holding g w count r j) where
-    pub holding-low : r ≤ j * 4278190080
+    pub holding-low : r ≤ j * mostLost
     holding-low = omega (arith, a .begun, a .bound, a .made, held-low (j - 1) (omega (arith, a .begun, a .bound)))
 
     pub holding-more : {x : ℕ} → j < count → x ≡ heldOf (g .pixels) w j → Holding g w count (r + x) (j + 1)

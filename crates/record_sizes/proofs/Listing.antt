@@ -11,13 +11,14 @@ use Rattle.meaning.specs.Answers.{over}
 use Rattle.meaning.specs.Cut.{countAt, counts, held, losses, lostAt}
 use Rattle.meaning.specs.Nodes.{areaOf, holds, parent, rise}
 use Rattle.meaning.specs.Opening.{attribute}
-use Rattle.meaning.specs.Plate.{grey}
+use Rattle.meaning.specs.Plate.{grey, maxGreatest, maxPixels}
 use Rattle.meaning.specs.Sets.{pick, span, sum, table}
 use Rattle.theory_lists.proofs.Lists.{table-same}
 use Rattle.theory_lists.proofs.Sums.{sum-cong}
 use Rattle.theory_lists.proofs.Tests.{pick-no}
 use Rattle.theory_lists.proofs.Written.{written-more, written-over}
 use Rattle.theory_tree.proofs.Nodes.{parent-below}
+use Rattle.theory_connectivity.proofs.Sizes.{greatest-range}
 use Rattle.theorems.proofs.Plates.{plate-some}
 use Rattle.theorems.proofs.Theorems.{held-is-sum, lost-is-sum}
 use Rattle.work_columns.specs.Columns.{col}
@@ -25,7 +26,7 @@ use Rattle.work_columns.specs.Layout.{AREA, ATTRIBUTE, LEVEL, PARENT, touchIn}
 use Rattle.work_columns.specs.declared.Shape.{Shape}
 use Rattle.maxtree_columns.specs.Tree.{Attributed, Tree, nodesIn}
 use Rattle.maxtree_columns.proofs.Tree.{area-part, attribute-root, attribute-some, level-low, tree-grid, tree-nodes}
-use Rattle.record_sizes.specs.Sizes.{TableOf, byAttribute, heldBy, heldOf, lossOf, ones, tally, zeros}
+use Rattle.record_sizes.specs.Sizes.{TableOf, byAttribute, heldBy, heldOf, lossOf, mostLost, ones, tally, zeros}
 use Rattle.record_sizes.proofs.Tally.{over-drop, tallies-at, tallies-more, tallies-none, tallies-past, tally-cong, tally-le, tally-one}
 
 -- ---- the tables cleared
@@ -73,12 +74,12 @@ module _ (n : ℕ) (w : List ℕ) (j : ℕ) {p a l b : ℕ} (ep : p ≡ col PARE
 
 module _ {g : Shape} {f w : List ℕ} {count : ℕ} (t : Tree g f w count) where
   -- a node's loss is small
-  pub loss-low : (j : ℕ) → 0 < j → j < count → lossOf (g .pixels) w j ≤ 4278190080
+  pub loss-low : (j : ℕ) → 0 < j → j < count → lossOf (g .pixels) w j ≤ mostLost
   loss-low j h l =
       mul-le-mul {n₁ = col AREA (g .pixels) w j} {m₁ = col LEVEL (g .pixels) w j - col LEVEL (g .pixels) w (col PARENT (g .pixels) w j)}
-      {n₂ = 16777216} {m₂ = 255}
+      {n₂ = maxPixels} {m₂ = maxGreatest}
       (omega (arith, area-part t j h l, t .room .small))
-      (omega (arith, level-low t j l))
+      (omega (arith, level-low t j l, greatest-range (g .greatest) (t .plate .range) .most))
 
   -- in the plate's words
   loss-node : (j : ℕ) → suc j < count

@@ -6,6 +6,7 @@ use lib.Dec.{eqb, leb}
 use lib.ListN.{length}
 use Rattle.meaning.specs.Answers.{over}
 use Rattle.meaning.specs.Cut.{counts, held, losses}
+use Rattle.meaning.specs.Plate.{maxGreatest, maxPixels}
 use Rattle.meaning.specs.Sets.{pick, sum, table}
 use Rattle.work_columns.specs.Columns.{Frame, col}
 use Rattle.work_columns.specs.Layout.{AREA, ATTRIBUTE, LEVEL, PARENT, greysIn}
@@ -31,7 +32,11 @@ ones j = 1
 abbrev pub lossOf : ℕ → List ℕ → ℕ → ℕ
 lossOf n w j = col AREA n w j * (col LEVEL n w j - col LEVEL n w (col PARENT n w j))
 
--- the grey held with node j: the same where its attribute is all the pixels, else 0; and with the first k nodes after the root
+-- no node loses more
+abbrev pub mostLost : ℕ
+mostLost = maxPixels * maxGreatest
+
+-- the grey held with node j: the grey lost with it where its attribute is all the pixels, else 0; and with the first k nodes after the root
 abbrev pub heldOf : ℕ → List ℕ → ℕ → ℕ
 heldOf n w j = pick (leb n (col ATTRIBUTE n w j)) (lossOf n w j) 0
 

@@ -7,7 +7,7 @@ ghost use Rattle.meaning.specs.Answers.{over};
 ghost use Rattle.meaning.specs.Cut.{darkest, held};
 ghost use Rattle.work_columns.specs.Layout.{greysIn};
 ghost use Rattle.maxtree_columns.specs.Tree.{AttributedStands, TreeStands};
-ghost use Rattle.record_sizes.specs.Sizes.{SizesListed, SizesWritten, TableOf, TablesFit, byAttribute, heldOf, lossOf, ones, zeros};
+ghost use Rattle.record_sizes.specs.Sizes.{SizesListed, SizesWritten, TableOf, TablesFit, byAttribute, heldOf, lossOf, mostLost, ones, zeros};
 use work_columns::AREA;
 use work_columns::ATTRIBUTE;
 use work_columns::LEVEL;
@@ -32,7 +32,7 @@ fn clear_tables(counts: &mut [u32], losses: &mut [u64], m: usize)
 fn loss_of(w: &[u32], g: Shape, count: usize, j: usize) -> usize
     requires { ⌜ TreeStands g (now w) count ⌝ }
     requires { ⌜ (0 < j) × (j < count) ⌝ }
-    ensures { λ r. ⌜ (r ≡ lossOf (g .pixels) (now (w .entry)) j) × (r ≤ 4278190080) ⌝ }
+    ensures { λ r. ⌜ (r ≡ lossOf (g .pixels) (now (w .entry)) j) × (r ≤ mostLost) ⌝ }
 {
     let parent = work_columns::get(w, g.pixels, PARENT, j);
     let area = work_columns::get(w, g.pixels, AREA, j);
@@ -100,7 +100,7 @@ fn sum_losses(w: &[u32], g: Shape, count: usize, losses: &mut [u64])
 fn held_with(w: &[u32], g: Shape, count: usize, j: usize) -> u64
     requires { ⌜ AttributedStands g (now w) count ⌝ }
     requires { ⌜ (0 < j) × (j < count) ⌝ }
-    ensures { λ r. ⌜ (r ≡ heldOf (g .pixels) (now (w .entry)) j) × (r ≤ 4278190080) ⌝ }
+    ensures { λ r. ⌜ (r ≡ heldOf (g .pixels) (now (w .entry)) j) × (r ≤ mostLost) ⌝ }
 {
     let attribute = work_columns::get(w, g.pixels, ATTRIBUTE, j);
     if attribute < g.pixels {

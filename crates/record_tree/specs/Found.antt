@@ -1,12 +1,12 @@
--- What reading a record finds, up to 24, and what it leaves in the work space.
+-- What reading a record finds, up to 24, and what it leaves in the work space. M: the greatest grey.
 use mathlib.Core.Path.{_≡_}
 use mathlib.Core.Bool.{true}
 use mathlib.Core.List.{List}
-use Prim.Native.Nat.{ℕ, _*_, _≤_}
+use Prim.Native.Nat.{ℕ, _*_, _≤_, _<_}
 use lib.ListN.{length}
 use Rattle.meaning.specs.Answers.{workAfter}
-use Rattle.work_columns.specs.Columns.{Frame, Room}
-use Rattle.work_columns.specs.Layout.{Greys, greysIn, shapeOf}
+use Rattle.work_columns.specs.Columns.{Frame, Room, col}
+use Rattle.work_columns.specs.Layout.{GREY, greysIn, shapeOf}
 use Rattle.maxtree_columns.specs.Tree.{TreeStands}
 use Rattle.record_parse.specs.Parse.{Parsed, early, late, plate}
 use Rattle.record_parse.specs.declared.Parse.{Parse}
@@ -22,15 +22,15 @@ foundBy (Tree wd ht k count) w = plate k wd ht (greysIn (wd * ht) w)
 
 -- what it leaves in the work space: all as it was where no work had begun, else changes in the eight columns only, where the tree of an accepted plate
 -- stands, with so many nodes
-abbrev pub FoundWork : Found → List ℕ → List ℕ → Type 0
-FoundWork (Early number) w w′ = w′ ≡ w
-FoundWork (Late number pixels) w w′ = Room w pixels × Frame pixels w w′
-FoundWork (Tree wd ht k count) w w′ = Frame (wd * ht) w w′ × TreeStands (shapeOf (wd * ht) wd ht k) w′ count
+abbrev pub FoundWork : ℕ → Found → List ℕ → List ℕ → Type 0
+FoundWork M (Early number) w w′ = w′ ≡ w
+FoundWork M (Late number pixels) w w′ = Room w pixels × Frame pixels w w′
+FoundWork M (Tree wd ht k count) w w′ = Frame (wd * ht) w w′ × TreeStands (shapeOf (wd * ht) wd ht M k) w′ count
 
 -- so it is where reading finds P
-pub record FoundIs (P : Parsed) (w w′ : List ℕ) (r : Found) : Type 0 where
+pub record FoundIs (M : ℕ) (P : Parsed) (w w′ : List ℕ) (r : Found) : Type 0 where
   pub answer : foundBy r w′ ≡ P
-  pub space : FoundWork r w w′
+  pub space : FoundWork M r w w′
 
 -- the specification's number of a refusal
 abbrev pub foundNumber : Found → ℕ
@@ -50,10 +50,10 @@ clearedBy (Early number) work = work
 clearedBy (Late number pixels) work = workAfter true pixels work
 clearedBy (Tree w h k count) work = work
 
--- greys that fit an output
+-- greys that fit an output of bytes
 pub record GreysStand (n : ℕ) (w out : List ℕ) : Type 0 where
   pub room : Room w n
-  pub greys : Greys n w
+  pub bytes : (p : ℕ) → p < n → col GREY n w p < 256
   pub places : n ≤ length out
 
 -- what a record that is no plate's is refused by

@@ -1,7 +1,9 @@
 // A record read up to 24: the tree of its plate stands in the work space, or the specification's number says why not.
 ghost use mathlib.Core.Path.{_≡_};
+ghost use mathlib.Core.Bool.{true};
 ghost use lib.ListN.{length};
 ghost use Rattle.meaning.specs.Answers.{over};
+ghost use Rattle.meaning.specs.Plate.{greatestFits};
 ghost use Rattle.work_columns.specs.Layout.{greysIn};
 ghost use Rattle.record_parse.specs.Parse.{readOf};
 ghost use Rattle.record_tree.specs.Found.{FoundIs, foundNumber, Clearable, clearedBy, unspeltOf, GreysStand};
@@ -29,17 +31,25 @@ fn unspelt(p: Parse) -> Found
     }
 }
 
-// Reads a record up to 24. The tree of its plate then stands in the work space.
-pub fn read_tree(bytes: &[u8], work: &mut [u32]) -> Found
-    ensures { λ r. ⌜ FoundIs (readOf (now (bytes .entry)) (length (now (work .entry)))) (now (work .entry)) (now (work .exit)) r ⌝ }
+// Reads a record of greys up to `greatest`, up to 24. The tree of its plate then stands in the work space.
+pub fn read_tree(bytes: &[u8], greatest: u32, work: &mut [u32]) -> Found
+    requires { ⌜ greatestFits greatest ≡ true ⌝ }
+    ensures { λ r. ⌜ FoundIs greatest (readOf greatest (now (bytes .entry)) (length (now (work .entry)))) (now (work .entry)) (now (work .exit)) r ⌝ }
 {
-    let p = record_parse::parse_record(bytes, work);
+    let p = record_parse::parse_record(bytes, greatest, work);
     let Parse::Plate(width, height, connectivity) = p else {
         return unspelt(p);
     };
     let n = (width * height) as usize;
-    let g = work_columns::shape_of(n, width, height, connectivity);
-    let count = maxtree::build_tree(work, g.pixels, g.width, g.height, g.connectivity);
+    let g = work_columns::shape_of(n, width, height, greatest, connectivity);
+    let count = maxtree::build_tree(
+        work,
+        g.pixels,
+        g.width,
+        g.height,
+        g.greatest,
+        g.connectivity,
+    );
     if !record_fields::same(work, g, count, bytes) {
         return Found::Late(24, n);
     }

@@ -11,7 +11,7 @@ use borrow.Author.Tests.{ne-eqb, le-ltb}
 use Rattle.meaning.specs.Answers.{outRefusal, over, workAfter}
 use Rattle.meaning.specs.Cut.{counts, cut, darkest, held, losses, total}
 use Rattle.meaning.specs.Nodes.{nodesOf}
-use Rattle.meaning.specs.Plate.{Plate}
+use Rattle.meaning.specs.Plate.{Plate, greatestGrey}
 use Rattle.meaning.specs.Record.{recordOf}
 use Rattle.meaning.specs.Sets.{pick}
 use Rattle.plate_refusals.proofs.Refusals.{Chain, Filterable, Taken, decided, out-met, passed, tree-later}
@@ -143,7 +143,7 @@ module _ (k w h limit : ℕ) (f bytes out counted lost work : List ℕ) {e : ℕ
         no-refusal : writeRefusal k w h f bytes work ≡ 0
         no-refusal = sym number-is ∙ none
 
-        pl : Plate k w h f
+        pl : Plate k w h greatestGrey f
         pl = d .accepted no-refusal
 
         long : r .length ≡ length (recordOf k w h f)
@@ -162,14 +162,14 @@ module _ (k w h limit : ℕ) (f bytes out counted lost work : List ℕ) {e : ℕ
         bytes-passed : take (r .length) bytes₁ ≡ recordOf k w h f
         bytes-passed = rw bytes-are (over-take (recordOf k w h f) bytes (r .length) (sym long))
 
-        read-is : {v : List ℕ} → v ≡ workAfter true (w * h) work → readOf (take (r .length) bytes₁) (length v) ≡ plate k w h f
+        read-is : {v : List ℕ} → v ≡ workAfter true (w * h) work → readOf greatestGrey (take (r .length) bytes₁) (length v) ≡ plate k w h f
         read-is {v} q =
             let space : 8 * (w * h) ≤ length v = omega (arith, fits .sizes .space, zeroed-length (w * h) work (fits .sizes .space), ap length q) in
             rw bytes-passed (read-there pl (length v) space)
 
         pub listed-done : {out₁ counted₁ lost₁ w₂ w₃ : List ℕ} {r₂ : Head} {r₃ : SizeHead}
-            → CutRecord (readOf (take (r .length) bytes₁) (length w₁)) limit out out₁ w₁ w₂ r₂
-            → ListedSizes (readOf (take (r .length) bytes₁) (length w₂)) counted counted₁ lost lost₁ w₂ w₃ r₃
+            → CutRecord (readOf greatestGrey (take (r .length) bytes₁) (length w₁)) limit out out₁ w₁ w₂ r₂
+            → ListedSizes (readOf greatestGrey (take (r .length) bytes₁) (length w₂)) counted counted₁ lost lost₁ w₂ w₃ r₃
             → WrittenCutListed k w h limit f bytes bytes₁ out out₁ counted counted₁ lost lost₁ work w₃
             (record { refusal = 0; length = r .length; nodes = r₃ .nodes; darkest = r₃ .darkest; held = r₃ .held })
         unfolding writeCutListAnswer
@@ -203,7 +203,7 @@ module _ (k w h limit : ℕ) (f bytes out counted lost work : List ℕ) {e : ℕ
 
 -- ---- given its space nothing is refused
 
-pub not-refused : {k w h : ℕ} {f : List ℕ} → Plate k w h f → (limit : ℕ) → 1 ≤ limit → limit ≤ w * h → (bytes out counted lost work : List ℕ)
+pub not-refused : {k w h : ℕ} {f : List ℕ} → Plate k w h greatestGrey f → (limit : ℕ) → 1 ≤ limit → limit ≤ w * h → (bytes out counted lost work : List ℕ)
     → length (recordOf k w h f) ≤ length bytes → w * h ≤ length out
     → w * h - 1 ≤ length counted → w * h - 1 ≤ length lost → 8 * (w * h) ≤ length work
     → writeCutListRefusal k w h limit f bytes out counted lost work ≡ 0

@@ -7,7 +7,7 @@ use Prim.Native.Nat.{ℕ, _*_}
 use lib.Dec.{eqb}
 use lib.ListN.{length, take}
 use Rattle.meaning.specs.Sets.{pick}
-use Rattle.meaning.specs.Plate.{Plate, connectivityFits, gridFits}
+use Rattle.meaning.specs.Plate.{Plate, connectivityFits, greatestGrey, gridFits}
 use Rattle.meaning.specs.Nodes.{nodesOf}
 use Rattle.meaning.specs.Cut.{counts, cut, darkest, held, losses, total}
 use Rattle.meaning.specs.Record.{recordOf}
@@ -58,7 +58,7 @@ pub record WrittenCutListed (k w h limit : ℕ) (f bytes bytes′ out out′ cou
     pub count-table : counted′ ≡ outAfter (writeCutListRefusal k w h limit f bytes out counted lost work) (counts k w h f) counted
     pub loss-table : lost′ ≡ outAfter (writeCutListRefusal k w h limit f bytes out counted lost work) (losses k w h f) lost
     pub space : work′ ≡ workAfter (workBegins k w h limit f bytes out counted lost work) (w * h) work
-    pub accepted : writeCutListRefusal k w h limit f bytes out counted lost work ≡ 0 → Plate k w h f
+    pub accepted : writeCutListRefusal k w h limit f bytes out counted lost work ≡ 0 → Plate k w h greatestGrey f
     pub is-cut : writeCutListRefusal k w h limit f bytes out counted lost work ≡ 0 → IsCut k w h limit f (take (w * h) out′)
     pub is-list : writeCutListRefusal k w h limit f bytes out counted lost work ≡ 0
         → IsSizeList k w h f counted′ lost′ (r .darkest) (r .held) (λ (a : ℕ). total (cut k w h a f))

@@ -12,7 +12,7 @@ use Rattle.meaning.specs.Answers.{over, treeRefusal}
 use Rattle.meaning.specs.Cut.{countAt, counts, darkest, held, losses, lostAt}
 use Rattle.meaning.specs.Nodes.{nodesOf, own}
 use Rattle.meaning.specs.Opening.{attribute}
-use Rattle.meaning.specs.Plate.{Plate, grey, touch}
+use Rattle.meaning.specs.Plate.{Plate, greatestGrey, grey, touch}
 use Rattle.meaning.specs.Record.{fields, nodeFields, recordOf, treeFields}
 use Rattle.meaning.specs.Sets.{elem, gather, nth, table}
 use Rattle.theory_lists.proofs.Lists.{distinct-area, length-table}
@@ -60,7 +60,7 @@ sizes-over n counted lost out out′ a b =
 abbrev pub answerText : SizeHead → List ℕ → List ℕ
 answerText s sizes = ((headLine (s .width) (s .height) (s .connectivity) (s .nodes) ++ sizes) ++ heldLine (s .held)) ++ restLine (s .darkest)
 
-module _ {w h : ℕ} {f : List ℕ} (pl : Plate four w h f) where
+module _ {w h : ℕ} {f : List ℕ} (pl : Plate four w h greatestGrey f) where
   abbrev xs : List ℕ
   xs = nodesOf four w f
 
@@ -96,7 +96,7 @@ module _ {w h : ℕ} {f : List ℕ} (pl : Plate four w h f) where
   record-short small = omega (arith, encode-most (fields four w h f), fields-length, few-nodes)
 
   -- the darkest grey is a grey
-  pub darkest-low : darkest f < 256
+  pub darkest-low : darkest f ≤ greatestGrey
   darkest-low = omega (arith, darkest-root pl, pl .greys (nth xs 0) (nth-inside (plate-grid pl) (plate-nodes pl) 0 some-nodes))
 
   plate-text-is : plateText w h f
@@ -126,7 +126,7 @@ module _ {w h : ℕ} {f : List ℕ} (pl : Plate four w h f) where
 
   module _ {given counted counted′ lost lost′ work work′ : List ℕ} {r : SizeHead} (same : given ≡ bytes) (a : w * h - 1 ≤ length counted)
       (b : w * h - 1 ≤ length lost) (c : 8 * (w * h) ≤ length work)
-      (x : ListedSizes (readOf given (length work)) counted counted′ lost lost′ work work′ r)
+      (x : ListedSizes (readOf greatestGrey given (length work)) counted counted′ lost lost′ work work′ r)
     where
       listed : ListedSizes (plate four w h f) counted counted′ lost lost′ work work′ r
       listed = rw (same, read-there pl (length work) c) at x
@@ -137,7 +137,7 @@ module _ {w h : ℕ} {f : List ℕ} (pl : Plate four w h f) where
       head-is : r ≡ record { refusal = 0; width = w; height = h; connectivity = four; nodes = length xs; darkest = darkest f; held = held four w h f }
       head-is = listed .answer ∙ rw none
 
-      pub listed-low : r .darkest < 256
+      pub listed-low : r .darkest ≤ greatestGrey
       listed-low = omega (arith, ap (λ (s : SizeHead). s .darkest) head-is, darkest-low)
 
       counts-length : length (counts four w h f) ≡ length f - 1

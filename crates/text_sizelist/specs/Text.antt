@@ -6,6 +6,7 @@ use lib.ListN.{length}
 use Rattle.meaning.specs.Cut.{counts, darkest, held, losses}
 use Rattle.meaning.specs.Ink.{inkOf}
 use Rattle.meaning.specs.Nodes.{nodesOf}
+use Rattle.meaning.specs.Plate.{greatestGrey}
 use Rattle.meaning.specs.Sets.{gather, nth, pick}
 use Rattle.pgm.specs.File.{rasterOf, readPgm}
 use Rattle.pgm.specs.Text.{bytes}
@@ -49,7 +50,7 @@ heldLine held = line (bytes "held") (held ∷ [])
 -- "rest", darkest grey, its ink percentage
 unfoldable pub restLine : ℕ → List ℕ
 unfolding bytes line inkOf
-restLine grey = line (bytes "rest") (grey ∷ inkOf grey ∷ [])
+restLine grey = line (bytes "rest") (grey ∷ inkOf greatestGrey grey ∷ [])
 
 -- a plate of width w and height h: one line for each area from 1 to pixels - 1, rising, between the first line and the last two
 unfoldable pub plateText : ℕ → ℕ → List ℕ → List ℕ

@@ -1,6 +1,7 @@
 // The text that the program sizelist prints for a plate file.
 ghost use Prim.Native.Nat.{_+_, _*_, _≤_, _<_};
 ghost use lib.ListN.{length};
+ghost use Rattle.meaning.specs.Plate.{greatestGrey};
 ghost use Rattle.meaning.specs.Sets.{gather};
 ghost use Rattle.text_lines.specs.Lines.{PutText};
 ghost use Rattle.text_sizelist.specs.Text.{refusedText, headLine, sizeLine, heldLine, restLine, plateText, sizeText};
@@ -77,7 +78,7 @@ fn put_held(text: &mut [u8], at: usize, held: u64) -> usize
 // Puts the last line: the darkest grey and its ink percentage.
 fn put_rest(text: &mut [u8], at: usize, darkest: u32) -> usize
     requires { ⌜ at + 47 ≤ length (now text) ⌝ }
-    requires { ⌜ darkest < 256 ⌝ }
+    requires { ⌜ darkest ≤ greatestGrey ⌝ }
     ensures { λ r. ⌜ PutText (now (text .entry)) at (restLine darkest) (now (text .exit)) r ⌝ }
 {
     let first = text_lines::put_word(text, at, b"rest");

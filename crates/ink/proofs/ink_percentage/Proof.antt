@@ -1,27 +1,17 @@
--- `ink::ink_percentage` meets its contract: what is rounded is the formula of the ink percentage.
-use borrow.Author.Needs.{needs}
-use Rattle.meaning.specs.Ink.{inkOf}
-use Rattle.ink.proofs.Rounding.{percentage, ink-most}
+-- `ink::ink_percentage` meets its contract.
+use native.Mathlib.Omega.{arith}
+use Rattle.ink.proofs.Rounding.{percentage}
 use Rattle.ink.proofs.ink_percentage.Statement.{statement}
 use Rattle.ink.proofs.ink_percentage.Tie as tie
 
-sub-rounded : tie.Need-sub-rounded
-sub-rounded c = search needs
-
-mul-rounded : tie.Need-mul-rounded
-mul-rounded c = search needs
-
-rounded-requires : tie.Need-rounded-requires
-rounded-requires c κs = search needs
+ink-of-requires : tie.Need-ink-of-requires
+ink-of-requires c κs = (omega arith, omega arith, omega arith)
 
 cast-result : tie.Need-cast-result
-unfolding inkOf
-cast-result c = search (needs, ink-most (c .before .args .grey))
+cast-result c = omega (arith, c .ink-of .ensures .1)
 
 returns : tie.Need-returns
-unfolding inkOf
-returns c = rw (c .rounded .ensures) (percentage (c .before .args .grey))
+returns c = rw (c .ink-of .ensures .0) (percentage (c .before .args .grey))
 
 pub ink-percentage-spec : {M : Type 1} → statement M
-ink-percentage-spec =
-    tie.close (tie.spec sub-rounded mul-rounded rounded-requires cast-result returns)
+ink-percentage-spec = tie.close (tie.spec ink-of-requires cast-result returns)

@@ -15,14 +15,14 @@ use Rattle.plate_greys.proofs.Sides.{side-plate-table}
 use Rattle.maxtree_values.specs.Values.{valueAt}
 
 -- what is written at pixel p
-abbrev written : Bool → ℕ → List ℕ → ℕ → ℕ
-written negated n w p = sideGrey negated (valueAt n w p)
+abbrev written : Bool → ℕ → ℕ → List ℕ → ℕ → ℕ
+written negated M n w p = sideGrey negated M (valueAt n w p)
 
 abbrev Inv-loop : tie.InvT-loop
-Inv-loop w n negated out₀ p₀ out p = (p ≤ n) × (length out ≡ length out₀) × (out ≡ table p (written negated n w) ++ drop p out₀)
+Inv-loop w n negated greatest out₀ p₀ out p = (p ≤ n) × (length out ≡ length out₀) × (out ≡ table p (written negated greatest n w) ++ drop p out₀)
 
 abbrev μ-loop : tie.MeasureT-loop
-μ-loop w n negated out₀ p₀ out p = n - p
+μ-loop w n negated greatest out₀ p₀ out p = n - p
 
 loop-holds : tie.Need-loop-holds Inv-loop μ-loop
 unfolding table span
@@ -47,7 +47,8 @@ loop-again c =
       omega arith,
       simp length-set (l .loop .inv .1),
       rw (l .loop .inv .2)
-          (written-more (written (s .negated) (s .n) (now (s .w))) (l .loop .p) (c .out-value .result) (now (s .out)) (omega arith) (c .out-value .ensures)),
+          (written-more (written (s .negated) (s .greatest) (s .n) (now (s .w))) (l .loop .p) (c .out-value .result) (now (s .out)) (omega arith)
+          (c .out-value .ensures)),
     )
 
 same-length : tie.Need-same-length Inv-loop μ-loop
@@ -57,8 +58,8 @@ returns : tie.Need-returns Inv-loop μ-loop
 returns c =
     let s = c .before .before .before .before .args in
     let x : c .before .loop .p ≡ s .n = omega arith in
-    rw (c .before .loop .inv .2, x, side-plate-table (s .negated) (s .n) (valueAt (s .n) (now (s .w))))
-    (written-over (s .n) (written (s .negated) (s .n) (now (s .w))) (now (s .out)))
+    rw (c .before .loop .inv .2, x, side-plate-table (s .negated) (s .greatest) (s .n) (valueAt (s .n) (now (s .w))))
+    (written-over (s .n) (written (s .negated) (s .greatest) (s .n) (now (s .w))) (now (s .out)))
 
 pub write-values-spec : {M : Type 1} → statement M
 write-values-spec =

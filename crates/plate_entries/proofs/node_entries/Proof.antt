@@ -1,5 +1,5 @@
--- `plate_entries::node_entries` meets its contract: a walk of its MIR, by hand. Of `start_list`, `fill` and `end_list` it knows only their contracts. The work space is
--- lent again to the first, shared with the second and given up to the third; the list is given up to the second.
+-- `plate_entries::node_entries` meets its contract: a walk of its MIR, by hand. Of `begin_list`, `fill` and `end_list` it knows only their contracts. The
+-- work space is lent again to the first, shared with the second and given up to the third; the list is given up to the second.
 -- Assumes nothing.
 use mathlib.Core.Path.{_≡_, refl, sym, ap, subst, _∙_}
 use mathlib.Core.List.{[], _∷_, List, _++_}
@@ -41,20 +41,21 @@ use denote.Triple.Table.{entered, cited}
 use denote.Triple.Walked.{says, Stays, stay-none, stay-none-slice, gave-slice, walkOf, goes-none, goes-none-slice, goes-gave-slice, Walks, ends-at, walked, walk-meets}
 use denote.Exit.{yes}
 use denote.Signature.{plain}
+use Rattle.meaning.specs.Plate.{greatestGrey}
 use Rattle.meaning.specs.Sets.{pick as choose, table}
 use Rattle.plate_tree.specs.declared.NodeList.{NodeList}
 use Rattle.plate_tree.specs.Listing.{Started}
 use Rattle.plate_tree.proofs.NodeList as N
 use Rattle.plate_tree.proofs.NodeList.Laws as N′
-use Rattle.plate_tree.proofs.start_list as starting
-use Rattle.plate_tree.proofs.start_list.Symbol as starting-def
-use Rattle.plate_tree.proofs.start_list.Symbol.{name as #plate-tree·start-list}
-use Rattle.plate_tree.proofs.start_list.Met as starting-thm
 use Rattle.plate_entries.specs.declared.Node.{Node}
 use Rattle.plate_entries.specs.Entries.{EntriesListed, overNodes, standing}
 use Rattle.plate_entries.proofs.Lent.{LentAgain, LentShared, comes-back, lends-again, lends-shared, shared-back}
 use Rattle.plate_entries.proofs.Results.{endable, entries-listed, fillable}
 use Rattle.plate_entries.proofs.Node as T
+use Rattle.plate_entries.proofs.begin_list as starting
+use Rattle.plate_entries.proofs.begin_list.Symbol as starting-def
+use Rattle.plate_entries.proofs.begin_list.Symbol.{name as #plate-entries·begin-list}
+use Rattle.plate_entries.proofs.begin_list.Met as starting-thm
 use Rattle.plate_entries.proofs.fill as filling
 use Rattle.plate_entries.proofs.fill.Symbol as filling-def
 use Rattle.plate_entries.proofs.fill.Symbol.{name as #plate-entries·fill}
@@ -160,7 +161,7 @@ module _ {M : Type 1} (𝓤 : URA M) (H : Heap 𝓤) (A : Atoms 𝓤) (W : Given
         fjoin ! $ owned ! u32 (Is u32) (uint-makes 𝓤 H A W w32) w _ (refl, w-fits) $ fjoin ! $
         move ! (1 ∷ 0 ∷ []) $ fjoin ! $ nothing ! $ move ! (3 ∷ 0 ∷ []) $ join ! $ move ! (2 ∷ 0 ∷ []) $ join ! $ join ! $ frame ! $ done !
 
-    module _ (r : NodeList) (ws₁ : List ℕ) (l₁ : length ws₁ ≡ length ws) (count-fits : r .count < 2 ^ 64) (refusal-fits : r .refusal < 2 ^ 32) (st : Started k w h f (length ys) ws ws₁ (r .refusal) (r .count)) where
+    module _ (r : NodeList) (ws₁ : List ℕ) (l₁ : length ws₁ ≡ length ws) (count-fits : r .count < 2 ^ 64) (refusal-fits : r .refusal < 2 ^ 32) (st : Started k w h greatestGrey f (length ys) ws ws₁ (r .refusal) (r .count)) where
       abbrev Lasts₁ : Type 0
       Lasts₁ = List Node × (Unit {0} × (Unit {0} × (Unit {0} × Unit {0})))
 
@@ -202,7 +203,7 @@ module _ {M : Type 1} (𝓤 : URA M) (H : Heap 𝓤) (A : Atoms 𝓤) (W : Given
       abbrev zeroed : List ℕ
       zeroed = choose (eqb (r .refusal) 0) (replicate (8 * length f) 0 ++ drop-list (8 * length f) ws₁) ws₁
 
-    module _ (C : Calls 𝓤 H) (Λ : Loops 𝓤 H) (fm : FmC 𝓤 H (W .laws) C) (known-start : Triple 𝓤 (C #plate-tree·start-list) (Start 𝓤 H A mem run)) (known-fill : Triple 𝓤 (C #plate-entries·fill) (Fill 𝓤 H A mem run)) (known-end : Triple 𝓤 (C #plate-entries·end-list) (End 𝓤 H A mem run)) where
+    module _ (C : Calls 𝓤 H) (Λ : Loops 𝓤 H) (fm : FmC 𝓤 H (W .laws) C) (known-start : Triple 𝓤 (C #plate-entries·begin-list) (Start 𝓤 H A mem run)) (known-fill : Triple 𝓤 (C #plate-entries·fill) (Fill 𝓤 H A mem run)) (known-end : Triple 𝓤 (C #plate-entries·end-list) (End 𝓤 H A mem run)) where
       walk : ent 𝓤 (onEntry 𝓤 H A listing.signature (κ₀, (κ₁, (κ₂, tt))) (q₀, (q₁, (q₂, tt))) a vals) (WpFn 𝓤 H C Λ code.function (s₀ ∷ vint w32 w ∷ vint w32 h ∷ vint w32 k ∷ s₁ ∷ s₂ ∷ []) Post)
       walk =
           qed W ((‵ (flft κ₀ q₀) ⊛ (‵ (flft κ₁ q₁) ⊛ (‵ (flft κ₂ q₂) ⊛ ‵ ftrue))) ∷ ‵ (owns (ShrSlice (named 0) κ₀ u8 ∷ u32 ∷ u32 ∷ u32 ∷ MutSlice (named 1) κ₁ T.the-row ∷ MutSlice (named 2) κ₂ u32 ∷ []) a vals) ∷ []) ∵
@@ -231,16 +232,16 @@ module _ {M : Type 1} (𝓤 : URA M) (H : Heap 𝓤) (A : Atoms 𝓤) (W : Given
           (lends-again u32 κ₂ (ν ∷ []) q₂ γ b o 𝓤 H A W (named 2) (named 1) ws) $
           await ! tt $ pick ! (λ δ. split ! $
           move ! (3 ∷ 0 ∷ 7 ∷ 2 ∷ []) $ join ! $ use3 W (raw (Start 𝓤 H A mem run .pre (to-start ν δ))) (goes-start ν δ) $
-          -- [what `start_list` asks; what is kept of the work space; the plate; the list; the list's token; _20; …]
+          -- [what `begin_list` asks; what is kept of the work space; the plate; the list; the list's token; _20; …]
           calls-at ! fm (Start 𝓤 H A mem run) known-start (to-start ν δ)
           (and-then ! (load ! (from ! (stop !)) (look ! 43 refl)) (and-then ! (load ! (from ! (stop !)) (look ! 41 refl)) (and-then ! (load ! (from ! (stop !)) (look ! 39 refl))
           (and-then ! (load ! (from ! (stop !)) (look ! 37 refl)) (and-then ! (load ! (from ! (stop !)) (look ! 29 refl)) (and-then ! (load ! (from ! (stop !)) (look ! 19 refl)) (no-more !))))))) (λ v.
           use1 W (later (some (λ (r : NodeList). ((‵ (flft κ₀ q₀) ⊛ (‵ (flft (ν ∷ []) fullShare) ⊛ ‵ ftrue)) ⊛ ‵ (N.the-row .own r (v ∷ []))) ⊛ raw (ensured 𝓤 H A starting.ended (starting.clauses 𝓤 H A mem run) (κ₀, (ν ∷ [], tt)) (args₀ δ) tt r)))) (id⊢ 𝓤 _) $
           await ! tt $ pick ! (λ r.
           split ! $ move ! (1 ∷ []) $
-          use1 W (some (λ (zs : Lasts₀). ‵ (lasts starting.ended (κ₀, (ν ∷ [], tt)) (args₀ δ) zs) ⊛ raw (fact 𝓤 (Started k w h f (length ys) ws (zs .1 .1 .1 .1 .1 .0) (r .refusal) (r .count))))) (id⊢ 𝓤 _) $
+          use1 W (some (λ (zs : Lasts₀). ‵ (lasts starting.ended (κ₀, (ν ∷ [], tt)) (args₀ δ) zs) ⊛ raw (fact 𝓤 (Started k w h greatestGrey f (length ys) ws (zs .1 .1 .1 .1 .1 .0) (r .refusal) (r .count))))) (id⊢ 𝓤 _) $
           pick ! (λ zs.
-          split ! $ move ! (1 ∷ []) $ heard ! (Started k w h f (length ys) ws (zs .1 .1 .1 .1 .1 .0) (r .refusal) (r .count)) (λ st.
+          split ! $ move ! (1 ∷ []) $ heard ! (Started k w h greatestGrey f (length ys) ws (zs .1 .1 .1 .1 .1 .0) (r .refusal) (r .count)) (λ st.
           fsplit ! $ drop ! $ fsplit ! $ drop ! $ fsplit ! $ drop ! $ fsplit ! $ drop ! $ fsplit ! $ drop ! $ fsplit ! $ fsplit ! $ move ! (1 ∷ []) $
           feqL ! (λ l. move ! (1 ∷ []) $ drop ! $ move ! (1 ∷ []) $ split ! $ move ! (1 ∷ []) $
           -- [what the answer owns; the tokens; the work space's last list; what is kept of it; the plate; the list; its token; _20; …]
@@ -325,7 +326,7 @@ module _ {M : Type 1} (𝓤 : URA M) (H : Heap 𝓤) (A : Atoms 𝓤) (W : Given
           by ! (exits r (zs₁ .0) (zs₂ .0) len₁ (len₂ ∙ l) (entries-listed ys (r .refusal) (r .count) st e₁ e₂)))))))))))))))))))))))))))))))))))))))))))))
 
 module _ {M : Type 1} (𝓤 : URA M) (H : Heap 𝓤) (A : Atoms 𝓤) (W : Given 𝓤 H A) (mem : Memory → SProp 𝓤) (run : Routine → Fun 𝓤) (𝓣 : Tables 𝓤 H)
-    (known-start : Triple 𝓤 (𝓣 .C #plate-tree·start-list) (Start 𝓤 H A mem run)) (known-fill : Triple 𝓤 (𝓣 .C #plate-entries·fill) (Fill 𝓤 H A mem run))
+    (known-start : Triple 𝓤 (𝓣 .C #plate-entries·begin-list) (Start 𝓤 H A mem run)) (known-fill : Triple 𝓤 (𝓣 .C #plate-entries·fill) (Fill 𝓤 H A mem run))
     (known-end : Triple 𝓤 (𝓣 .C #plate-entries·end-list) (End 𝓤 H A mem run)) where
   node-entries-walks : Walks 𝓤 H A listing.ended stayed (WpFn 𝓤 H (𝓣 .C) (𝓣 .Λ) code.function) (listing.clauses 𝓤 H A mem run)
   node-entries-walks = walked 𝓤 H A listing.ended stayed (listing.clauses 𝓤 H A mem run) (WpFn 𝓤 H (𝓣 .C) (𝓣 .Λ) code.function)
@@ -360,6 +361,6 @@ node-entries-spec 𝓤 H 𝓜 𝓖 𝓡 =
     entered 𝓤 H (tripleOf 𝓤 H (𝓖 .A) listing.signature (listing.spec 𝓤 H (𝓖 .A) (𝓜 .mem) (𝓡 .run)))
     (tables 𝓤 H 𝓜 𝓡 code.env .C) (tables 𝓤 H 𝓜 𝓡 code.env .Λ) #plate-entries·node-entries code.function (code.unfolded 𝓤 H 𝓜 𝓡)
     (node-entries-meets 𝓤 H (𝓖 .A) (givenOf 𝓤 H 𝓜 𝓖) (𝓜 .mem) (𝓡 .run) (tablesOf 𝓤 H 𝓜 (tables 𝓤 H 𝓜 𝓡 code.env))
-    (cited 𝓤 H (Start 𝓤 H (𝓖 .A) (𝓜 .mem) (𝓡 .run)) 𝓜 𝓡 code.env #plate-tree·start-list starting-def.routine code.calls-plate-tree·start-list (starting-thm.met 𝓤 H 𝓜 𝓖 𝓡))
+    (cited 𝓤 H (Start 𝓤 H (𝓖 .A) (𝓜 .mem) (𝓡 .run)) 𝓜 𝓡 code.env #plate-entries·begin-list starting-def.routine code.calls-plate-entries·begin-list (starting-thm.met 𝓤 H 𝓜 𝓖 𝓡))
     (cited 𝓤 H (Fill 𝓤 H (𝓖 .A) (𝓜 .mem) (𝓡 .run)) 𝓜 𝓡 code.env #plate-entries·fill filling-def.routine code.calls-plate-entries·fill (filling-thm.met 𝓤 H 𝓜 𝓖 𝓡))
     (cited 𝓤 H (End 𝓤 H (𝓖 .A) (𝓜 .mem) (𝓡 .run)) 𝓜 𝓡 code.env #plate-entries·end-list ending-def.routine code.calls-plate-entries·end-list (ending-thm.met 𝓤 H 𝓜 𝓖 𝓡)))

@@ -7,10 +7,10 @@ use Rattle.work_columns.proofs.Columns.{before, frame-room}
 use Rattle.plate_greys.proofs.Sides.{Loading, loading-done, loading-first, loading-more}
 
 abbrev Inv-loop : tie.InvT-loop
-Inv-loop image negated work₀ n p₀ work p = Loading negated image work₀ work p
+Inv-loop image negated greatest work₀ n p₀ work p = Loading negated greatest image work₀ work p
 
 abbrev μ-loop : tie.MeasureT-loop
-μ-loop image negated work₀ n p₀ work p = n - p
+μ-loop image negated greatest work₀ n p₀ work p = n - p
 
 loop-holds : tie.Need-loop-holds Inv-loop μ-loop
 loop-holds c = loading-first
@@ -22,12 +22,14 @@ cast-side-grey : tie.Need-cast-side-grey Inv-loop μ-loop
 cast-side-grey c = omega (arith, c .shared-slice-known2 .given (c .before .before .loop .p))
 
 side-grey-requires : tie.Need-side-grey-requires Inv-loop μ-loop
-side-grey-requires c κs = omega (arith, c .shared-slice-known2 .given (c .before .before .loop .p))
+side-grey-requires c κs =
+    let l = c .before .before in
+    l .before .before .before .pre .greys (l .loop .p) (omega arith)
 
 put-requires : tie.Need-put-requires Inv-loop μ-loop
 put-requires c κs =
     let l = c .before .before .before .before in
-    (frame-room (l .before .before .before .pre) (l .loop .inv .frame), (omega arith, (omega arith, omega arith)))
+    (frame-room (l .before .before .before .pre .room) (l .loop .inv .frame), (omega arith, (omega arith, omega arith)))
 
 add-p : tie.Need-add-p Inv-loop μ-loop
 add-p c = omega arith
@@ -47,8 +49,7 @@ same-length c = c .before .loop .inv .frame .len
 
 returns : tie.Need-returns Inv-loop μ-loop
 returns c =
-    let s = c .before .before .before in
-    loading-done (c .before .loop .inv) (c .loop-test .left) (λ p. omega (arith, s .shared-slice-known .given p))
+    loading-done (c .before .loop .inv) (c .loop-test .left) (c .before .before .before .before .pre .greys)
 
 pub load-spec : {M : Type 1} → statement M
 load-spec =

@@ -2,10 +2,10 @@
 use borrow.Author.Needs.{needs}
 use Rattle.plate_tree.proofs.plate_tree.Statement.{statement}
 use Rattle.plate_tree.proofs.plate_tree.Tie as tie
-use Rattle.plate_tree.proofs.Building.{tree-stands, ready-buildable, ready-room}
+use Rattle.plate_tree.proofs.Building.{tree-stands, ready-buildable, ready-loadable}
 
 load-requires : tie.Need-load-requires
-load-requires c κs = ready-room (c .before .before .before .pre)
+load-requires c κs = ready-loadable (c .before .before .before .pre)
 
 build-tree-requires : tie.Need-build-tree-requires
 build-tree-requires c κs =

@@ -16,7 +16,7 @@ returns : tie.Need-returns
 returns c =
     let s = c .before .before .before .before .before .args in
     rw (c .refused .ensures .0, c .refused .ensures .1)
-    (started-refused (s .connectivity) (s .width) (s .height) (now (s .image)) (now (s .work)) (s .places)
+    (started-refused (s .connectivity) (s .width) (s .height) (s .greatest) (now (s .image)) (now (s .work)) (s .places)
     (c .before .before .tree-refusal .ensures) (c .before .if1 .taken))
 
 shape-of-requires : tie.Need-shape-of-requires
@@ -26,8 +26,8 @@ plate-tree-requires : tie.Need-plate-tree-requires
 plate-tree-requires c κs =
     let e = c .before .before in
     let s = e .before .before .before .before .args in
-    started-ready (s .connectivity) (s .width) (s .height) (now (s .image)) (now (s .work)) (s .places)
-    (e .before .tree-refusal .ensures) (e .if1 .left) (c .before .shape-of .ensures)
+    started-ready (s .connectivity) (s .width) (s .height) (s .greatest) (now (s .image)) (now (s .work)) (s .places)
+    (e .before .tree-refusal .ensures) (e .if1 .left) (c .before .shape-of .ensures) (e .before .before .before .before .pre)
 
 out-refusal-requires : tie.Need-out-refusal-requires
 out-refusal-requires c κs = search needs
@@ -37,7 +37,7 @@ clear-requires c κs =
     let p = c .before .before .before .before .before in
     let e = p .before .before .before in
     let s = e .before .before .before .before .args in
-    started-room (s .connectivity) (s .width) (s .height) (now (s .image)) (now (s .work)) (s .places)
+    started-room (s .connectivity) (s .width) (s .height) (s .greatest) (now (s .image)) (now (s .work)) (s .places)
     (e .before .tree-refusal .ensures) (e .if1 .left) (p .before .before .shape-of .ensures) (p .plate-tree .ensures)
 
 refused-requires-2 : tie.Need-refused-requires-2
@@ -54,18 +54,18 @@ returns-2 c =
     let e = p .before .before .before in
     let s = e .before .before .before .before .args in
     rw (c .refused2 .ensures .0, c .refused2 .ensures .1)
-    (started-short (s .connectivity) (s .width) (s .height) (now (s .image)) (now (s .work)) (s .places)
+    (started-short (s .connectivity) (s .width) (s .height) (s .greatest) (now (s .image)) (now (s .work)) (s .places)
     (e .before .tree-refusal .ensures) (e .if1 .left) (p .before .before .shape-of .ensures) (p .plate-tree .ensures)
     (q .out-refusal .ensures) (t .if2 .taken) (c .before .before .before .clear .ensures))
 
-cast-t19 : tie.Need-cast-t19
-cast-t19 c =
+cast-t20 : tie.Need-cast-t20
+cast-t20 c =
     let p = c .before .before .before .before in
     let e = p .before .before .before in
     let s = e .before .before .before .before .args in
     omega (
       arith,
-      started-count (s .connectivity) (s .width) (s .height) (now (s .image)) (now (s .work)) (s .places)
+      started-count (s .connectivity) (s .width) (s .height) (s .greatest) (now (s .image)) (now (s .work)) (s .places)
           (e .before .tree-refusal .ensures) (e .if1 .left) (p .before .before .shape-of .ensures) (p .plate-tree .ensures),
     )
 
@@ -78,7 +78,7 @@ returns-3 c =
     let p = q .before .before .before in
     let e = p .before .before .before in
     let s = e .before .before .before .before .args in
-    started-done (s .connectivity) (s .width) (s .height) (now (s .image)) (now (s .work)) (s .places)
+    started-done (s .connectivity) (s .width) (s .height) (s .greatest) (now (s .image)) (now (s .work)) (s .places)
     (e .before .tree-refusal .ensures) (e .if1 .left) (p .before .before .shape-of .ensures) (p .plate-tree .ensures) (q .out-refusal .ensures) (c .if2 .left)
 
 pub start-list-spec : {M : Type 1} → statement M
@@ -95,6 +95,6 @@ start-list-spec =
     refused-requires-2
     same-length
     returns-2
-    cast-t19
+    cast-t20
     same-length-2
     returns-3)

@@ -5,6 +5,8 @@ use Rattle.record.proofs.size_list.Tie as tie
 use native.Mathlib.Omega.{arith}
 use denote.Ref.{now}
 use lib.ListN.{length}
+use Rattle.meaning.specs.Plate.{greatestGrey}
+use Rattle.theory_connectivity.proofs.Sizes.{byte-range}
 use Rattle.record_parse.specs.Parse.{readOf}
 use Rattle.record_tree.proofs.Finding.{TreeFound, tree-found, found-clearable}
 use Rattle.record.proofs.Refused.{Stopped, stopped, sizes-stopped, sizes-refused}
@@ -16,7 +18,8 @@ start c = c .before .before .before .before .before .before
 
 -- the width, height and connectivity of the record's plate, and the number of its nodes; its tree stands in the work space
 there : (c : tie.After-known-told) → let t = c .before .before .before .before .before in let g = c .before .f .given .0 in let s = start t .args in
-    TreeFound (readOf (now (s .bytes)) (length (now (s .work)))) (g .0) (g .1 .0) (g .1 .1 .0) (now (s .work)) (t .read-tree .last .1 .0) (g .1 .1 .1 .0)
+    TreeFound greatestGrey (readOf greatestGrey (now (s .bytes)) (length (now (s .work)))) (g .0) (g .1 .0) (g .1 .1 .0) (now (s .work))
+    (t .read-tree .last .1 .1 .0) (g .1 .1 .1 .0)
 there c = tree-found (c .before .before .before .before .before .read-tree .ensures) (c .before .f .given .1)
 
 -- the record is refused up to 24
@@ -24,7 +27,7 @@ abbrev asked : tie.After-give-up → tie.After-read-tree
 asked c = c .before .before .before .before .before
 
 refused : (c : tie.After-give-up) → let t = asked c in let s = start t .args in
-    Stopped (readOf (now (s .bytes)) (length (now (s .work)))) (now (s .work)) (c .give-up .last .1 .0) (c .give-up .result)
+    Stopped (readOf greatestGrey (now (s .bytes)) (length (now (s .work)))) (now (s .work)) (c .give-up .last .1 .0) (c .give-up .result)
 refused c =
     let t = asked c .read-tree in
     stopped (t .result) (t .ensures) (c .before .before .match .keys2) (c .give-up .ensures .0) (c .give-up .ensures .1)
@@ -40,7 +43,7 @@ abbrev darkened : tie.After-list-sizes → tie.After-darkest-of
 darkened c = c .before .before .before .before
 
 read-tree-requires : tie.Need-read-tree-requires
-read-tree-requires c κs = search needs
+read-tree-requires c κs = byte-range
 
 enum-known-f : tie.Need-enum-known-f
 enum-known-f c = search needs

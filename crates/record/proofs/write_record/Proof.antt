@@ -8,6 +8,7 @@ use lib.ListN.{length}
 use native.Mathlib.Omega.{arith}
 use Rattle.maxtree_columns.proofs.Tree.{tree-here}
 use Rattle.plate_refusals.proofs.Refusals.{Listable, out-none, tree-none}
+use Rattle.plate_tree.proofs.Building.{bytes-fit}
 use Rattle.record.proofs.Wrote.{wrote-done, wrote-ready, wrote-refused, wrote-room, wrote-short}
 
 -- ---- what stands at each place
@@ -51,8 +52,10 @@ shape-of-requires c κs = search needs
 plate-tree-requires : tie.Need-plate-tree-requires
 plate-tree-requires c κs =
     let e = c .before .before in
+    let k = e .before .before .before .before in
     let s = start (e .before) .args in
     wrote-ready (now (s .image)) (now (s .work)) (listable e) (c .before .shape-of .ensures)
+    (bytes-fit (now (s .image)) (λ p. omega (arith, k .shared-slice-known .given p)))
 
 measure-requires : tie.Need-measure-requires
 measure-requires c κs = tree-here (c .before .before .before .plate-tree .ensures .tree)

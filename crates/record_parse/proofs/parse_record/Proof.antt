@@ -18,7 +18,10 @@ use Rattle.record_parse.proofs.Record.{AfterWidth, AfterHeight, AfterCo
 use Rattle.record_parse.proofs.Record.{height-stops, too-large, after-connectivity, connectivity-stops, no-connectivity, after-count}
 use Rattle.record_parse.proofs.Record.{count-stops, too-short, begun, early-answer, late-answer, plate-answer}
 
--- ---- what is known at each place: the bytes, the length of the work space, and each field with the position after it
+-- ---- what is known at each place: the greatest grey, the bytes, the length of the work space, and each field with the position after it
+abbrev greatest : tie.Start → ℕ
+greatest c = c .args .greatest
+
 abbrev bytes : tie.Start → List ℕ
 bytes c = now (c .args .s)
 
@@ -26,7 +29,7 @@ abbrev space : tie.Start → ℕ
 space c = length (now (c .args .work))
 
 abbrev spelt : tie.Start → Parsed
-spelt c = parse (bytes c) (space c)
+spelt c = parse (greatest c) (bytes c) (space c)
 
 -- the width
 abbrev start1 : tie.After-known-told → tie.Start
@@ -38,7 +41,7 @@ w1 c = c .before .f1 .given .0 .0
 abbrev at1 : tie.After-known-told → ℕ
 at1 c = c .before .f1 .given .0 .1 .0
 
-width1 : (c : tie.After-known-told) → AfterWidth (bytes (start1 c)) (space (start1 c)) (w1 c) (at1 c)
+width1 : (c : tie.After-known-told) → AfterWidth (greatest (start1 c)) (bytes (start1 c)) (space (start1 c)) (w1 c) (at1 c)
 width1 c = after-width (took (bytes (start1 c)) 0 1 32768 (c .before .before .before .read-field .ensures) (c .before .f1 .given .1))
 
 -- the height
@@ -54,7 +57,7 @@ h2 c = c .before .f2 .given .0 .0
 abbrev at2 : tie.After-known-told2 → ℕ
 at2 c = c .before .f2 .given .0 .1 .0
 
-height2 : (c : tie.After-known-told2) → AfterHeight (bytes (start2 c)) (space (start2 c)) (w1 (told1 c)) (h2 c) (at2 c)
+height2 : (c : tie.After-known-told2) → AfterHeight (greatest (start2 c)) (bytes (start2 c)) (space (start2 c)) (w1 (told1 c)) (h2 c) (at2 c)
 height2 c =
     after-height (width1 (told1 c))
     (took (bytes (start2 c)) (at1 (told1 c)) 1 32768 (c .before .before .before .read-field2 .ensures) (c .before .f2 .given .1))
@@ -72,7 +75,8 @@ k3 c = c .before .f3 .given .0 .0
 abbrev at3 : tie.After-known-told3 → ℕ
 at3 c = c .before .f3 .given .0 .1 .0
 
-connectivity3 : (c : tie.After-known-told3) → AfterConnectivity (bytes (start3 c)) (space (start3 c)) (w1 (told1 (told2 c))) (h2 (told2 c)) (k3 c) (at3 c)
+connectivity3 : (c : tie.After-known-told3)
+    → AfterConnectivity (greatest (start3 c)) (bytes (start3 c)) (space (start3 c)) (w1 (told1 (told2 c))) (h2 (told2 c)) (k3 c) (at3 c)
 connectivity3 c =
     after-connectivity (height2 (told2 c)) (c .before .before .before .before .if1 .left)
     (took (bytes (start3 c)) (at2 (told2 c)) 0 4294967295 (c .before .before .before .read-field3 .ensures) (c .before .f3 .given .1))
@@ -97,7 +101,7 @@ abbrev k4 : tie.After-known-told4 → ℕ
 k4 c = k3 (told3 c)
 
 count4 : (c : tie.After-known-told4)
-    → AfterCount (bytes (start4 c)) (space (start4 c)) (w4 c) (h4 c) (k4 c) (c .before .f4 .given .0 .0) (c .before .f4 .given .0 .1 .0)
+    → AfterCount (greatest (start4 c)) (bytes (start4 c)) (space (start4 c)) (w4 c) (h4 c) (k4 c) (c .before .f4 .given .0 .0) (c .before .f4 .given .0 .1 .0)
 count4 c =
     after-count (connectivity3 (told3 c)) (fit (c .before .before .before .before))
     (took (bytes (start4 c)) (at3 (told3 c)) 1 (w4 c * h4 c) (c .before .before .before .read-field4 .ensures) (c .before .f4 .given .1))
@@ -124,7 +128,8 @@ returns : tie.Need-returns
 returns c =
     let st = c .before .before .before .before .before .before in
     early-answer (spelt st) (now (st .args .work))
-    (width-stops (bytes st) (space st) (stopped (c .before .before .before .read-field .ensures) (c .before .enum-told .given .1) (c .refusal .ensures)))
+    (width-stops (greatest st) (bytes st) (space st)
+    (stopped (c .before .before .before .read-field .ensures) (c .before .enum-told .given .1) (c .refusal .ensures)))
 
 read-field-requires-2 : tie.Need-read-field-requires-2
 read-field-requires-2 c κs = tt

@@ -30,10 +30,10 @@ took1 c =
     (rw (loop1 c .loop .inv .1) at (c .before .before .before .read-field .ensures)) (c .before .f .given .1)
 
 sub-last : tie.Need-sub-last Inv-loop μ-loop
-sub-last c = omega (arith, c .before .before .pre .some)
+sub-last c = omega (arith, c .before .before .pre .1 .0)
 
 cast-last : tie.Need-cast-last Inv-loop μ-loop
-cast-last c = omega (arith, c .before .before .pre .most, c .before .before .pre .room .small)
+cast-last c = omega (arith, c .before .before .pre .1 .1, c .before .before .pre .0 .small)
 
 loop-holds : tie.Need-loop-holds Inv-loop μ-loop
 loop-holds c = (greys-first, refl)
@@ -68,13 +68,13 @@ get-requires c κs =
     let k = c .before in
     let l = loop1 k in
     let s = start1 k in
-    (frame-room (s .pre .room) (l .loop .inv .0 .frame), (omega arith, omega (arith, took1 k .high, s .pre .some, s .pre .most)))
+    (frame-room (s .pre .0) (l .loop .inv .0 .frame), (omega arith, omega (arith, took1 k .high, s .pre .1 .0, s .pre .1 .1)))
 
 put-requires : tie.Need-put-requires Inv-loop μ-loop
 put-requires c κs =
     let k = c .before .before .before in
     let l = loop1 k in (
-      frame-room (start1 k .pre .room) (l .loop .inv .0 .frame),
+      frame-room (start1 k .pre .0) (l .loop .inv .0 .frame),
       (omega arith, (k .before .before .before .before .loop-test .taken, c .before .get .ensures .1)),
     )
 
@@ -88,7 +88,7 @@ loop-again : tie.Need-loop-again Inv-loop μ-loop
 loop-again c =
     let k = c .before .before .before .before .before .before in
     let l = loop1 k in (
-      greys-more (l .loop .inv .0) (k .before .before .before .before .loop-test .taken) (start1 k .pre .some) (took1 k)
+      greys-more (l .loop .inv .0) (k .before .before .before .before .loop-test .taken) (start1 k .pre .1 .0) (took1 k)
           (c .before .before .before .before .get .ensures .0) (c .before .before .put .ensures),
       l .loop .inv .1,
     )

@@ -11,7 +11,7 @@ use Rattle.record_parse.proofs.Fields.{Took, took, stopped}
 use Rattle.record_parse.proofs.Nodes.{level-fits, rise-fits, node-stops₁, node-stops₂, node-stops₃, node-stores}
 
 -- ---- what stands at each place
-known : (c : tie.Start) → Known (c .args .n) (now (c .args .work)) (c .args .i)
+known : (c : tie.Start) → Known (c .args .n) (c .args .greatest) (now (c .args .work)) (c .args .i)
 known c = c .pre .0
 
 abbrev bytes : tie.Start → List ℕ
@@ -26,7 +26,7 @@ took1 : (c : tie.After-known-told)
 took1 c = took (bytes (start1 c)) (start1 c .args .at) 1 (start1 c .args .i) (c .before .before .before .read-field .ensures) (c .before .f1 .given .1)
 
 -- the parent's level
-level-low : (c : tie.After-get) → c .get .result ≤ 255
+level-low : (c : tie.After-get) → c .get .result ≤ start1 (c .before .before) .args .greatest
 level-low c = level-fits (known (start1 (c .before .before))) (took1 (c .before .before)) (c .get .ensures .0)
 
 -- the position after the step back
@@ -44,12 +44,12 @@ abbrev at2 : tie.After-known-told2 → ℕ
 at2 c = c .before .f2 .given .0 .1 .0
 
 took2 : (c : tie.After-known-told2)
-    → Took (bytes (start2 c)) (at1 (get2 c .before .before)) 1 (255 - get2 c .get .result) (c .before .f2 .given .0 .0) (at2 c)
+    → Took (bytes (start2 c)) (at1 (get2 c .before .before)) 1 (start2 c .args .greatest - get2 c .get .result) (c .before .f2 .given .0 .0) (at2 c)
 took2 c =
-    took (bytes (start2 c)) (at1 (get2 c .before .before)) 1 (255 - get2 c .get .result)
+    took (bytes (start2 c)) (at1 (get2 c .before .before)) 1 (start2 c .args .greatest - get2 c .get .result)
     (c .before .before .before .read-field2 .ensures) (c .before .f2 .given .1)
 
-sum-low : (c : tie.After-known-told2) → get2 c .get .result + c .before .f2 .given .0 .0 ≤ 255
+sum-low : (c : tie.After-known-told2) → get2 c .get .result + c .before .f2 .given .0 .0 ≤ start2 c .args .greatest
 sum-low c = rise-fits (known (start2 c)) (took1 (get2 c .before .before)) (get2 c .get .ensures .0) (took2 c)
 
 -- the area
@@ -89,11 +89,11 @@ get-requires c κs =
     let a = took1 (c .before) in
     (known (start1 (c .before)) .room, (omega arith, omega (arith, a .low, a .high)))
 
+cast-read-field-2 : tie.Need-cast-read-field-2
+cast-read-field-2 c = omega (arith, level-low c, start1 (c .before .before) .fits .greatest)
+
 sub-read-field : tie.Need-sub-read-field
 sub-read-field c = omega (arith, level-low c)
-
-cast-read-field-2 : tie.Need-cast-read-field-2
-cast-read-field-2 c = omega arith
 
 read-field-requires-2 : tie.Need-read-field-requires-2
 read-field-requires-2 c κs = tt
@@ -150,7 +150,7 @@ add-put c = omega (arith, sum-low (c .before .before .before .before .before))
 put-requires : tie.Need-put-requires
 put-requires c κs =
     let q = c .before .before .before .before .before in
-    (known (start2 q) .room, (omega arith, (start2 q .pre .1, omega (arith, sum-low q))))
+    (known (start2 q) .room, (omega arith, (start2 q .pre .1, omega (arith, sum-low q, start2 q .fits .greatest))))
 
 same-length-3 : tie.Need-same-length-3
 same-length-3 c = search needs
@@ -175,8 +175,8 @@ read-node-spec =
     cast-get
     sub-get
     get-requires
-    sub-read-field
     cast-read-field-2
+    sub-read-field
     read-field-requires-2
     enum-known-f2
     enum-told-2

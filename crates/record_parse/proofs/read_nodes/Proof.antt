@@ -7,10 +7,10 @@ use borrow.Author.Needs.{needs}
 use Rattle.record_parse.proofs.Nodes.{NodesLeft, nodes-first, nodes-more, nodes-stop, nodes-done}
 
 abbrev Inv-loop : tie.InvT-loop
-Inv-loop s start work₀ n count i₀ at₀ work i at = NodesLeft s start n work₀ work count i at
+Inv-loop s start work₀ n greatest count i₀ at₀ work i at = NodesLeft greatest s start n work₀ work count i at
 
 abbrev μ-loop : tie.MeasureT-loop
-μ-loop s start work₀ n count i₀ at₀ work i at = count - i
+μ-loop s start work₀ n greatest count i₀ at₀ work i at = count - i
 
 loop-holds : tie.Need-loop-holds Inv-loop μ-loop
 loop-holds c = nodes-first (c .before .before .pre .0) (c .before .before .pre .1 .0)

@@ -17,8 +17,9 @@ bytes c = now (c .args .s)
 abbrev start1 : tie.After-known-told → tie.Start
 start1 c = c .before .before .before .before .before .before
 
-took1 : (c : tie.After-known-told) → Took (bytes (start1 c)) (start1 c .args .at) 0 255 (c .before .f1 .given .0 .0) (c .before .f1 .given .0 .1 .0)
-took1 c = took (bytes (start1 c)) (start1 c .args .at) 0 255 (c .before .before .before .read-field .ensures) (c .before .f1 .given .1)
+took1 : (c : tie.After-known-told)
+    → Took (bytes (start1 c)) (start1 c .args .at) 0 (start1 c .args .greatest) (c .before .f1 .given .0 .0) (c .before .f1 .given .0 .1 .0)
+took1 c = took (bytes (start1 c)) (start1 c .args .at) 0 (start1 c .args .greatest) (c .before .before .before .read-field .ensures) (c .before .f1 .given .1)
 
 -- the root's area
 abbrev told1 : tie.After-known-told2 → tie.After-known-told
@@ -28,7 +29,7 @@ abbrev start2 : tie.After-known-told2 → tie.Start
 start2 c = start1 (told1 c)
 
 rooted2 : (c : tie.After-known-told2)
-    → let s = start2 c .args in Rooted (now (s .s)) (s .at) (s .n) (s .count) (told1 c .before .f1 .given .0 .0) (c .before .f2 .given .0 .1 .0)
+    → let s = start2 c .args in Rooted (s .greatest) (now (s .s)) (s .at) (s .n) (s .count) (told1 c .before .f1 .given .0 .0) (c .before .f2 .given .0 .1 .0)
 rooted2 c =
     rooted (took1 (told1 c))
     (took (bytes (start2 c)) (told1 c .before .f1 .given .0 .1 .0) 1 (start2 c .args .n) (c .before .before .before .read-field2 .ensures)
@@ -109,7 +110,9 @@ returns-3 c =
     tree-stops₃ (rooted2 (root n)) (put-of n .put .ensures) (n .read-nodes .ensures) (c .enum-told3 .given .1)
 
 read-greys-requires : tie.Need-read-greys-requires
-read-greys-requires c κs = c .before .before .before .before .before .before .read-nodes .ensures .known _ (c .before .before .nodes .given .1)
+read-greys-requires c κs =
+    let k = c .before .before .before .before .before .before .read-nodes .ensures .known _ (c .before .before .nodes .given .1) in
+    (k .room, (k .some, k .most))
 
 enum-known-greys : tie.Need-enum-known-greys
 enum-known-greys c = search needs

@@ -7,7 +7,7 @@ use lib.ListN.{length, getD, length-set}
 use Rattle.record_sizes.proofs.add_loss.Statement.{statement}
 use Rattle.record_sizes.proofs.add_loss.Tie as tie
 use Rattle.maxtree_columns.proofs.Tree.{few-nodes}
-use Rattle.record_sizes.specs.Sizes.{lossOf}
+use Rattle.record_sizes.specs.Sizes.{lossOf, mostLost}
 use Rattle.record_sizes.proofs.Listing.{added, added-low, added-past, added-place, inner, loss-low}
 
 -- what node j adds
@@ -55,7 +55,7 @@ add-losses c =
     let t = s .pre .0 .0 in
     omega (
       arith,
-      added-low t (lost s) (s .pre .1) (s .pre .0 .1) (e .before .before .get .ensures .0) (omega (arith, e .if1 .left)) 4278190080 (loss-low (t .tree)),
+      added-low t (lost s) (s .pre .1) (s .pre .0 .1) (e .before .before .get .ensures .0) (omega (arith, e .if1 .left)) mostLost (loss-low (t .tree)),
       c .before .loss-of .ensures .1,
       few-nodes (t .tree),
       s .pre .0 .1,

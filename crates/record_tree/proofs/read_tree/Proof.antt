@@ -28,10 +28,11 @@ start c = c .before .before .before .before
 
 told : (c : tie.After-known-told)
     → let s = start (parsed c) .args in
-    PlateSpelt (now (s .bytes)) (now (s .work)) (parsed c .parse-record .last .1 .0) (wide c) (high c) (kind c)
+    PlateSpelt (s .greatest) (now (s .bytes)) (now (s .work)) (parsed c .parse-record .last .1 .1 .0) (wide c) (high c) (kind c)
 told c =
     let p = parsed c .parse-record in
-    spelt (now (start (parsed c) .args .bytes)) (p .ensures .0) (p .ensures .1) (c .before .p .given .1)
+    let s = start (parsed c) in
+    spelt (s .pre) (now (s .args .bytes)) (p .ensures .0) (p .ensures .1) (c .before .p .given .1)
 
 parse-record-requires : tie.Need-parse-record-requires
 parse-record-requires c κs = search needs
@@ -51,7 +52,8 @@ returns c =
     let a = c .before .before .before .before in
     let s = start a .args in
     let p = a .parse-record in
-    unspelt-found (now (s .bytes)) (now (s .work)) (p .last .1 .0) (p .result) (p .ensures .0) (p .ensures .1) (c .before .match .keys2) (c .unspelt .ensures)
+    unspelt-found (now (s .bytes)) (now (s .work)) (p .last .1 .1 .0) (p .result) (p .ensures .0) (p .ensures .1) (c .before .match .keys2)
+    (c .unspelt .ensures)
 
 mul-n : tie.Need-mul-n
 mul-n c = omega (arith, spelt-few (told c))

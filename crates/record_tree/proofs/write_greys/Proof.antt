@@ -28,7 +28,7 @@ get-requires c κs = search needs
 
 cast-out : tie.Need-cast-out Inv-loop μ-loop
 cast-out c =
-    let g = c .before .before .before .before .before .pre .greys (c .before .before .loop .p) (c .before .loop-test .taken) in
+    let g = c .before .before .before .before .before .pre .bytes (c .before .before .loop .p) (c .before .loop-test .taken) in
     omega (arith, c .get .ensures .0, g)
 
 slice-write-out : tie.Need-slice-write-out Inv-loop μ-loop

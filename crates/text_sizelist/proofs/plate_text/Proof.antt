@@ -5,8 +5,9 @@ use borrow.Author.Needs.{needs}
 use denote.Ref.{now}
 use lib.ListN.{length, take}
 use lib.Seq.{length-take-le}
-use Rattle.meaning.specs.Plate.{Plate, connectivityFits}
+use Rattle.meaning.specs.Plate.{Plate, connectivityFits, greatestGrey}
 use Rattle.meaning.specs.Record.{recordOf}
+use Rattle.theory_connectivity.proofs.Sizes.{byte-range}
 use Rattle.theorems.proofs.Plates.{plate-some}
 use Rattle.text_lines.proofs.Pieces.{put-put}
 use Rattle.text_sizelist.specs.Text.{four}
@@ -24,11 +25,11 @@ write-record-requires : tie.Need-write-record-requires
 write-record-requires c κs = search needs
 
 -- the image is a plate: its bytes are greys
-plate-of : (c : tie.After-shared-slice-known) → let a = c .before .args in Plate four (a .width) (a .height) (now (a .image))
+plate-of : (c : tie.After-shared-slice-known) → let a = c .before .args in Plate four (a .width) (a .height) greatestGrey (now (a .image))
 unfolding connectivityFits
 plate-of c =
     let p = c .before .pre in
-    record { kind = refl; sizes = p .sizes; long = p .long; greys = λ i l. omega (arith, c .shared-slice-known .given i) }
+    record { kind = refl; sizes = p .sizes; range = byte-range; long = p .long; greys = λ i l. omega (arith, c .shared-slice-known .given i) }
 
 -- its record, as writing it answered
 written : (c : tie.After-write-record) → let a = c .before .before .before .before .before .args in

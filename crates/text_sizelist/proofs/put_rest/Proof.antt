@@ -2,6 +2,7 @@
 use borrow.Author.Needs.{needs}
 use Rattle.text_lines.proofs.Pieces.{and-field, begin, end-line}
 use Rattle.meaning.specs.Ink.{inkOf}
+use Rattle.meaning.specs.Plate.{greatestGrey}
 use Rattle.pgm.specs.Text.{bytes}
 use Rattle.text_sizelist.proofs.put_rest.Statement.{statement}
 use Rattle.text_sizelist.proofs.put_rest.Tie as tie
@@ -43,7 +44,8 @@ returns c =
     let w = f1 .before .before .before .before in
     let a = w .before .before .before .before .args in
     let b = and-field (begin (w .put-word .ensures)) (a .darkest) (f1 .put-field .ensures .0) in
-    end-line (and-field b (inkOf (a .darkest)) (rw (ink .ink-percentage .ensures .value) at (f2 .put-field2 .ensures .0))) (c .before .before .put-end .ensures)
+    end-line (and-field b (inkOf greatestGrey (a .darkest)) (rw (ink .ink-percentage .ensures .value) at (f2 .put-field2 .ensures .0)))
+    (c .before .before .put-end .ensures)
 
 pub put-rest-spec : {M : Type 1} → statement M
 put-rest-spec =
