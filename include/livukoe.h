@@ -27,16 +27,16 @@
  * the library as it is built (x86-64, -O3), on plates, files and records that were chosen to make it deep
  * (host/tests/c/stack.c). In bytes, rounded up to whole 1024:
  *
- *     livukoe_clean            9216
- *     livukoe_regional_maxima  9216
- *     livukoe_node_list        9216
- *     livukoe_node_entries     9216
+ *     livukoe_clean           13312
+ *     livukoe_regional_maxima 13312
+ *     livukoe_node_list       13312
+ *     livukoe_node_entries    13312
  *     livukoe_read_pgm         7168
- *     livukoe_write_record     9216
- *     livukoe_read_record      9216
- *     livukoe_cut_record       9216
- *     livukoe_size_list        9216
- *     livukoe_write_cut_list   9216
+ *     livukoe_write_record    13312
+ *     livukoe_read_record     13312
+ *     livukoe_cut_record      13312
+ *     livukoe_size_list       13312
+ *     livukoe_write_cut_list  14336
  *     livukoe_ink_percentage   1024 */
 #ifndef LIVUKOE_H
 #define LIVUKOE_H
