@@ -75,7 +75,7 @@ left n w = work n n (cell OWN n w) (cell NAME n w) (cell TOP n w) (cell START n 
 -- ---- a pixel is given its node and pushed
 
 -- the number of nodes is one more
-pub record Numbered (s s′ : List ℕ) (k : ℕ) : Type 0 where
+pub record NodeCounted (s s′ : List ℕ) (k : ℕ) : Type 0 where
   pub is : k ≡ nodes s
   pub next : s′ ≡ set s NODES (k + 1)
 
@@ -91,7 +91,7 @@ pub record Nameable (n : ℕ) (w s : List ℕ) (m : ℕ) : Type 0 where
   pub spare : nodes s < n
 
 -- the open level m has one pixel more
-pub record Counted (n : ℕ) (w w′ s s′ : List ℕ) (m v : ℕ) : Type 0 where
+pub record PixelCounted (n : ℕ) (w w′ s s′ : List ℕ) (m v : ℕ) : Type 0 where
   pub live : 0 < cell NAME n w m
   pub is : v ≡ nodeAt n w m
   pub more : Put n (cell FLOODAREA n w) (cell FLOODAREA n w′) v (cell FLOODAREA n w v + 1)
@@ -99,7 +99,7 @@ pub record Counted (n : ℕ) (w w′ s s′ : List ℕ) (m v : ℕ) : Type 0 whe
   pub same : s′ ≡ s
 
 -- the level m is opened, with the node v and one pixel
-pub record Opened (n : ℕ) (w w′ s s′ : List ℕ) (m v : ℕ) : Type 0 where
+pub record LevelOpened (n : ℕ) (w w′ s s′ : List ℕ) (m v : ℕ) : Type 0 where
   pub shut : cell NAME n w m ≡ 0
   pub is : v ≡ nodes s
   pub names : Put n (cell NAME n w) (cell NAME n w′) m (v + 1)
@@ -112,7 +112,7 @@ pub record LevelNamed (n : ℕ) (w w′ s s′ : List ℕ) (m v : ℕ) : Type 0 
   pub set-length : length s′ ≡ length s
   pub fits : v < n
   pub off : (d : ℕ) → d < 8 → (d ≡ NAME → ⊥) → (d ≡ FLOODAREA → ⊥) → cell d n w′ ≡ cell d n w
-  pub case : Counted n w w′ s s′ m v ⊎ Opened n w w′ s s′ m v
+  pub case : PixelCounted n w w′ s s′ m v ⊎ LevelOpened n w w′ s s′ m v
 
 -- the entry e is put on the stack of m
 pub record EntryPlaced (n : ℕ) (w w′ : List ℕ) (m e : ℕ) : Type 0 where
@@ -179,7 +179,7 @@ pub record LevelsCleared (n : ℕ) (w w′ : List ℕ) (m : ℕ) : Type 0 where
   pub off : (d : ℕ) → d < 8 → (d ≡ NAME → ⊥) → (d ≡ START → ⊥) → cell d n w′ ≡ cell d n w
 
 -- what counting asks: no pixel of a level that occurs is counted yet
-pub record Countable (n : ℕ) (w : List ℕ) : Type 0 where
+pub record LevelsCountable (n : ℕ) (w : List ℕ) : Type 0 where
   pub room : Room w n
   pub inside : (p : ℕ) → p < n → levelIn n w p < n
   pub zeros : (p : ℕ) → p < n → cell START n w (levelIn n w p) ≡ 0

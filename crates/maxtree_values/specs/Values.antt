@@ -4,6 +4,7 @@ use mathlib.Core.Bool.{Bool}
 use mathlib.Core.List.{List, _++_}
 use Prim.Native.Nat.{ℕ, suc, _*_, _≤_, _<_}
 use lib.ListN.{length, drop, replicate}
+use Rattle.meaning.specs.Plate.{greatestGrey}
 use Rattle.meaning.specs.Answers.{over}
 use Rattle.meaning.specs.Sets.{table}
 use Rattle.work_columns.specs.Columns.{Frame, Only, Room, col}
@@ -58,8 +59,8 @@ pub record Ones (n count : ℕ) (w w′ : List ℕ) : Type 0 where
 -- ---- writing
 
 -- each grey up to M is a byte
-abbrev pub Bytes : ℕ → Type 0
-Bytes M = M < 256
+abbrev pub ByteGreys : ℕ → Type 0
+ByteGreys M = M ≤ greatestGrey
 
 -- all values are written, and the columns are cleared
 pub record Delivered (negated : Bool) (n M : ℕ) (w w′ out out′ : List ℕ) : Type 0 where

@@ -21,8 +21,8 @@ use Rattle.plate_greys.proofs.Sides.{side-plate-length}
 use Rattle.plate_tree.specs.PlateTree.{GreysFit, PlateReady, PlateTree}
 
 -- bytes are greys up to the greatest of a byte
-pub bytes-fit : (f : List ℕ) → ((p : ℕ) → grey f p < 256) → GreysFit greatestGrey f
-bytes-fit f bytes = record { range = byte-range; greys = λ p l. omega (arith, bytes p) }
+pub bytes-fit : (f : List ℕ) → ((p : ℕ) → grey f p ≤ greatestGrey) → GreysFit greatestGrey f
+bytes-fit f bytes = record { range = byte-range; greys = λ p l. bytes p }
 
 -- a plate that is not refused, with its space and its shape
 pub plate-ready : {g : Shape} {k w h M : ℕ} {f work : List ℕ} → g ≡ shapeOf (length f) w h M k → GreysFit M f → Taken k w h f

@@ -14,7 +14,7 @@ use Rattle.work_columns.proofs.Columns.{cleared, frame-room, frame-trans}
 use Rattle.theory_connectivity.proofs.Sizes.{grid-sizes}
 use Rattle.maxtree_columns.specs.Tree.{TreeStands}
 use Rattle.maxtree_columns.proofs.Tree.{few-nodes}
-use Rattle.maxtree_values.specs.Values.{Bytes, Delivered, ValuesAre, Writable}
+use Rattle.maxtree_values.specs.Values.{ByteGreys, Delivered, ValuesAre, Writable}
 use Rattle.plate_refusals.proofs.Refusals.{limit-none, out-none, tables-none}
 use Rattle.record_parse.specs.Parse.{Parsed}
 use Rattle.record_sizes.specs.Sizes.{SizesWritten, TablesFit}
@@ -33,7 +33,7 @@ module _ {M : ℕ} {P : Parsed} {wd ht k count : ℕ} {work w₁ : List ℕ} (t 
   -- ---- reading. r, here and below: what was found to be the refusal by the operation's own conditions
 
   module _ {r : ℕ} {out : List ℕ} (e : r ≡ outRefusal (wd * ht) (length out) 0) (z : r ≡ 0) where
-    pub read-greys : Bytes M → GreysStand (wd * ht) w₁ out
+    pub read-greys : ByteGreys M → GreysStand (wd * ht) w₁ out
     read-greys bytes = record {
       room = tree-room;
       bytes = λ p l. omega (arith, ap (λ (h : ℕ → ℕ). h p) (t .tree .greys), t .tree .plate .greys p (omega (arith, t .tree .pixels)));
@@ -75,7 +75,7 @@ module _ {M : ℕ} {P : Parsed} {wd ht k count : ℕ} {work w₁ : List ℕ} (t 
         values : ValuesAre (wd * ht) M (cut k wd ht limit (greysIn (wd * ht) w₁)) w₁ w₂
         values = rw shape at v
 
-        pub cut-writable : Bytes M → (Writable (wd * ht) (g .greatest) w₂ × Bytes (g .greatest)) × (wd * ht ≤ length out)
+        pub cut-writable : ByteGreys M → (Writable (wd * ht) (g .greatest) w₂ × ByteGreys (g .greatest)) × (wd * ht ≤ length out)
         cut-writable bytes = rw greatest-is ((values .writable, bytes), cut-limit .1)
 
         pub cut-done : {out′ w₃ : List ℕ} → Delivered false (wd * ht) (g .greatest) w₂ w₃ out out′

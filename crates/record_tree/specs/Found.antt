@@ -4,6 +4,7 @@ use mathlib.Core.Bool.{true}
 use mathlib.Core.List.{List}
 use Prim.Native.Nat.{ℕ, _*_, _≤_, _<_}
 use lib.ListN.{length}
+use Rattle.meaning.specs.Plate.{greatestGrey}
 use Rattle.meaning.specs.Answers.{workAfter}
 use Rattle.work_columns.specs.Columns.{Frame, Room, col}
 use Rattle.work_columns.specs.Layout.{GREY, greysIn, shapeOf}
@@ -53,7 +54,7 @@ clearedBy (Tree w h k count) work = work
 -- greys that fit an output of bytes
 pub record GreysStand (n : ℕ) (w out : List ℕ) : Type 0 where
   pub room : Room w n
-  pub bytes : (p : ℕ) → p < n → col GREY n w p < 256
+  pub bytes : (p : ℕ) → p < n → col GREY n w p ≤ greatestGrey
   pub places : n ≤ length out
 
 -- what a record that is no plate's is refused by
