@@ -1,35 +1,47 @@
 -- the examples and the slips of SPECIFICATION 10, computed from the definitions.
 use mathlib.Core.Path.{_≡_, refl}
-use mathlib.Core.Bool.{Bool, true, false}
+use mathlib.Core.Bool.{Bool, true, false, _&&_}
 use mathlib.Core.List.{List, [], _∷_, _++_, map}
-use Prim.Native.Nat.{ℕ, suc, _-_, _*_}
-use lib.Dec.{ltb}
+use Prim.Native.Nat.{ℕ, suc, _+_, _-_, _*_}
+use lib.Dec.{leb, ltb}
 use lib.ListN.{drop, set, take}
 use Rattle.meaning.specs.Sets.{area, table}
-use Rattle.meaning.specs.Plate.{greatestFits, greatestGrey, lightest, maxGreatest, negative, apart, onTrimEdge}
+use Rattle.meaning.specs.Plate.{greatestFits, byteGreatest, lightest, maxGreatest, negative, onTrimEdge}
 use Rattle.meaning.specs.Opening.{opened, cleaned, lightSide, darkSide, atLeast, attribute, reaches}
 use Rattle.meaning.specs.Maxima.{marks}
 use Rattle.meaning.specs.Nodes.{nodesOf}
 use Rattle.meaning.specs.Cut.{cut, counts, losses, held, total, darkest}
-use Rattle.meaning.specs.Record.{recordOf, encode}
+use Rattle.meaning.specs.Record.{oldRecordOf, recordOf, encode}
 use Rattle.meaning.specs.Ink.{rounded, inkOf}
-use Rattle.meaning.specs.Answers.{cleanRefusal, filterRefusal, maximaRefusal, treeRefusal}
+use Rattle.meaning.specs.Answers.{cleanRefusal, filterRefusal, inkRefusal, maximaRefusal, treeRefusal}
 use Rattle.meaning.specs.Examples.{small, pair, run, workedCases, Case, diagonals, edges, neighbours, steps, places, borders, byCorner, trimEdge}
 
--- the greatest grey of the examples
+-- the greatest grey of the small plate
 abbrev M : ℕ
-M = greatestGrey
+M = byteGreatest
 
 -- every worked case of SPECIFICATION 10
 pub marked-hold : map (λ (c : Case). run (c .job)) workedCases ≡ map (λ (c : Case). c .answer) workedCases
 unfolding run
 marked-hold = refl
 
--- the small plate's record is the 27 bytes of SPECIFICATION 10
-pub record-27 : recordOf 4 4 3 small
-    ≡ 4 ∷ 3 ∷ 4 ∷ 4 ∷ 10 ∷ 12 ∷ 1 ∷ 20 ∷ 2 ∷ 1 ∷ 20 ∷ 1 ∷ 3 ∷ 80 ∷ 1 ∷ 0 ∷ 0 ∷ 0 ∷ 0 ∷ 0 ∷ 2 ∷ 1 ∷ 0 ∷ 0 ∷ 0 ∷ 0 ∷ 3 ∷ []
-unfolding recordOf
+-- the small plate's record in the old form is the 27 bytes of SPECIFICATION 10, and the new one has 0 2 255 1 in front
+abbrev small27 : List ℕ
+small27 = 4 ∷ 3 ∷ 4 ∷ 4 ∷ 10 ∷ 12 ∷ 1 ∷ 20 ∷ 2 ∷ 1 ∷ 20 ∷ 1 ∷ 3 ∷ 80 ∷ 1 ∷ 0 ∷ 0 ∷ 0 ∷ 0 ∷ 0 ∷ 2 ∷ 1 ∷ 0 ∷ 0 ∷ 0 ∷ 0 ∷ 3 ∷ []
+
+pub record-27 : oldRecordOf 4 4 3 small ≡ small27
+unfolding oldRecordOf
 record-27 = refl
+
+pub record-31 : recordOf 4 4 3 M small ≡ 0 ∷ 2 ∷ 255 ∷ 1 ∷ small27
+unfolding recordOf
+record-31 = refl
+
+-- the record of one pixel of the greatest grey: the root's level takes three bytes, as the greatest grey does
+pub record-16 : recordOf 8 1 1 maxGreatest (maxGreatest ∷ [])
+    ≡ 0 ∷ 2 ∷ 255 ∷ 255 ∷ 3 ∷ 1 ∷ 1 ∷ 8 ∷ 1 ∷ 255 ∷ 255 ∷ 3 ∷ 1 ∷ 0 ∷ []
+unfolding recordOf
+record-16 = refl
 
 -- a number of several groups
 pub groups-300 : encode (300 ∷ 127 ∷ 128 ∷ 4294967295 ∷ []) ≡ 172 ∷ 2 ∷ 127 ∷ 128 ∷ 1 ∷ 255 ∷ 255 ∷ 255 ∷ 255 ∷ 15 ∷ []
@@ -154,8 +166,11 @@ pub halves-up : rounded 4 10 ∷ rounded 5 10 ∷ rounded 6 10 ∷ rounded 1 2 �
 unfolding rounded
 halves-up = refl
 
--- the ink percentage is the nearest whole number, for each grey
-pub ink-nearest : table (suc M) (λ (g : ℕ). ltb (2 * apart (M * inkOf M g) ((M - g) * 100)) M) ≡ table (suc M) (λ (g : ℕ). true)
+-- the ink percentage is the nearest whole number, for each grey up to 255 and up to 200, where ties occur
+abbrev nearest : ℕ → ℕ → Bool
+nearest m g = leb (2 * (m * inkOf m g)) (2 * ((m - g) * 100) + m) && ltb (2 * ((m - g) * 100)) (2 * (m * inkOf m g) + m)
+
+pub ink-nearest : table 256 (nearest M) ++ table 201 (nearest 200) ≡ table 457 (λ (g : ℕ). true)
 unfolding table inkOf
 ink-nearest = refl
 
@@ -163,24 +178,43 @@ pub ink-rest : inkOf M 10 ∷ inkOf M 7 ∷ [] ≡ 96 ∷ 97 ∷ []
 unfolding inkOf
 ink-rest = refl
 
+-- with other greatest greys: bare paper and full ink, the halves 99 1/2 and 1/2, and 10 out of 65,535
+pub ink-other : inkOf 1 0 ∷ inkOf 1 1 ∷ inkOf 200 1 ∷ inkOf 200 199 ∷ inkOf maxGreatest 0 ∷ inkOf maxGreatest 10 ∷ inkOf maxGreatest maxGreatest ∷ []
+    ≡ 100 ∷ 0 ∷ 100 ∷ 1 ∷ 100 ∷ 100 ∷ 0 ∷ []
+unfolding inkOf
+ink-other = refl
+
 -- the small plate without its first pixel
 abbrev short : List ℕ
 short = drop 1 small
 
 -- limits 0 and 13 give 4; each other condition, with all later ones met too; nothing refused
-pub refusals : filterRefusal 4 4 3 0 small 12 96 ∷ filterRefusal 4 4 3 13 small 12 96 ∷ filterRefusal 5 0 3 0 short 0 0 ∷ filterRefusal 7 0 3 0 short 0 0
-    ∷ filterRefusal 6 0 3 0 short 0 0 ∷ filterRefusal 8 0 3 0 short 0 0 ∷ filterRefusal 8 4 3 0 short 0 0 ∷ filterRefusal 8 4 3 12 small 11 95
-    ∷ filterRefusal 8 4 3 12 small 12 95 ∷ filterRefusal 8 4 3 12 small 12 96 ∷ filterRefusal 6 4 3 12 small 12 96
-    ∷ maximaRefusal 4 4 3 small 11 0 ∷ treeRefusal 4 4 3 small 4 3 95 ∷ treeRefusal 4 4 3 small 4 3 96 ∷ []
-    ≡ 4 ∷ 4 ∷ 1 ∷ 1 ∷ 2 ∷ 2 ∷ 3 ∷ 5 ∷ 6 ∷ 0 ∷ 0 ∷ 5 ∷ 6 ∷ 5 ∷ []
-unfolding filterRefusal maximaRefusal treeRefusal
+pub refusals : filterRefusal 4 4 3 M 0 small 12 96 ∷ filterRefusal 4 4 3 M 13 small 12 96
+    ∷ filterRefusal 5 0 3 0 0 short 0 0 ∷ filterRefusal 7 0 3 0 0 short 0 0 ∷ filterRefusal 6 0 3 0 0 short 0 0 ∷ filterRefusal 8 0 3 0 0 short 0 0
+    ∷ filterRefusal 8 4 3 0 0 short 0 0 ∷ filterRefusal 8 4 3 89 0 short 0 0 ∷ filterRefusal 8 4 3 89 0 small 0 0
+    ∷ filterRefusal 8 4 3 90 12 small 11 95 ∷ filterRefusal 8 4 3 90 12 small 12 95 ∷ filterRefusal 8 4 3 90 12 small 12 96
+    ∷ filterRefusal 6 4 3 M 12 small 12 96 ∷ []
+    ≡ 4 ∷ 4 ∷ 1 ∷ 1 ∷ 2 ∷ 2 ∷ 29 ∷ 3 ∷ 28 ∷ 5 ∷ 6 ∷ 0 ∷ 0 ∷ []
+unfolding filterRefusal
 refusals = refl
 
+pub further-refusals : maximaRefusal 4 4 3 0 short 11 0 ∷ maximaRefusal 4 4 3 89 small 11 0 ∷ maximaRefusal 4 4 3 M small 11 0
+    ∷ treeRefusal 4 4 3 0 short 4 3 95 ∷ treeRefusal 4 4 3 89 small 4 3 95 ∷ treeRefusal 4 4 3 M small 4 3 95 ∷ treeRefusal 4 4 3 M small 4 3 96 ∷ []
+    ≡ 29 ∷ 28 ∷ 5 ∷ 29 ∷ 28 ∷ 6 ∷ 5 ∷ []
+unfolding maximaRefusal treeRefusal
+further-refusals = refl
+
+-- the greatest grey from below and from above; 29 comes ahead of 28
+pub ink-refusals : inkRefusal 0 1 ∷ inkRefusal (suc maxGreatest) 0 ∷ inkRefusal 254 255 ∷ inkRefusal 255 255 ∷ inkRefusal maxGreatest maxGreatest ∷ []
+    ≡ 29 ∷ 29 ∷ 28 ∷ 0 ∷ 0 ∷ []
+unfolding inkRefusal
+ink-refusals = refl
+
 -- sides 0 and 3 give 26, with all later conditions met too or none; sides 1 and 2 leave it to the later ones
-pub side-refusals : cleanRefusal 0 5 0 3 0 short 0 0 ∷ cleanRefusal 3 5 0 3 0 short 0 0
-    ∷ cleanRefusal 0 4 4 3 12 small 12 96 ∷ cleanRefusal 3 4 4 3 12 small 12 96
-    ∷ cleanRefusal 1 5 0 3 0 short 0 0 ∷ cleanRefusal 2 5 0 3 0 short 0 0
-    ∷ cleanRefusal 1 4 4 3 12 small 12 96 ∷ cleanRefusal 2 4 4 3 12 small 12 96 ∷ []
+pub side-refusals : cleanRefusal 0 5 0 3 0 0 short 0 0 ∷ cleanRefusal 3 5 0 3 0 0 short 0 0
+    ∷ cleanRefusal 0 4 4 3 M 12 small 12 96 ∷ cleanRefusal 3 4 4 3 M 12 small 12 96
+    ∷ cleanRefusal 1 5 0 3 0 0 short 0 0 ∷ cleanRefusal 2 5 0 3 0 0 short 0 0
+    ∷ cleanRefusal 1 4 4 3 M 12 small 12 96 ∷ cleanRefusal 2 4 4 3 M 12 small 12 96 ∷ []
     ≡ 26 ∷ 26 ∷ 26 ∷ 26 ∷ 1 ∷ 1 ∷ 0 ∷ 0 ∷ []
 unfolding cleanRefusal
 side-refusals = refl

@@ -5,9 +5,9 @@ use mathlib.Core.List.{List, _++_}
 use Prim.Native.Nat.{ℕ, _-_, _*_}
 use lib.Dec.{eqb, leb, ltb}
 use lib.ListN.{length, drop, replicate}
-use Rattle.meaning.specs.Sets.{pick}
+use Rattle.meaning.specs.Sets.{pick, some}
 use Rattle.meaning.specs.Opening.{sideFits}
-use Rattle.meaning.specs.Plate.{gridFits, connectivityFits}
+use Rattle.meaning.specs.Plate.{gridFits, connectivityFits, greatestFits, grey}
 
 -- the number where the condition is met, else what the later conditions give
 abbrev pub refuse : Bool → ℕ → ℕ → ℕ
@@ -25,17 +25,30 @@ outAfter refusal answer out = pick (eqb refusal 0) (over answer out) out
 abbrev pub workAfter : Bool → ℕ → List ℕ → List ℕ
 workAfter began pixels work = pick began (replicate (8 * pixels) 0 ++ drop (8 * pixels) work) work
 
--- ---- the conditions that several operations share. k: connectivity, w: width, h: height, f: the plate; out, counts, losses,
+-- ---- the conditions that several operations share. k: connectivity, w: width, h: height, M: greatest grey, f: the plate; out, counts, losses,
 -- work: lengths of what was lent
 
 -- 26 side neither light nor dark
 abbrev pub sideRefusal : ℕ → ℕ → ℕ
 sideRefusal side later = refuse (not (sideFits side)) 26 later
 
--- 1 connectivity not 4, 6 or 8; 2 width or height or pixels beyond the grid; 3 plate length not the pixels
-abbrev pub plateRefusal : ℕ → ℕ → ℕ → List ℕ → ℕ → ℕ
-plateRefusal k w h f later =
-    refuse (not (connectivityFits k)) 1 (refuse (not (gridFits w h)) 2 (refuse (not (eqb (length f) (w * h))) 3 later))
+-- 29 greatest grey not 1 to 65,535
+abbrev pub greatestRefusal : ℕ → ℕ → ℕ
+greatestRefusal M later = refuse (not (greatestFits M)) 29 later
+
+-- 28 a pixel above the greatest grey
+unfoldable pub anyAbove : ℕ → List ℕ → Bool
+unfolding some
+anyAbove M f = some (length f) (λ (p : ℕ). ltb M (grey f p))
+
+abbrev pub greysRefusal : ℕ → List ℕ → ℕ → ℕ
+greysRefusal M f later = refuse (anyAbove M f) 28 later
+
+-- 1 connectivity not 4, 6 or 8; 2 width or height or pixels beyond the grid; 29; 3 plate length not the pixels; 28
+abbrev pub plateRefusal : ℕ → ℕ → ℕ → ℕ → List ℕ → ℕ → ℕ
+plateRefusal k w h M f later =
+    refuse (not (connectivityFits k)) 1 (refuse (not (gridFits w h)) 2
+    (greatestRefusal M (refuse (not (eqb (length f) (w * h))) 3 (greysRefusal M f later))))
 
 -- 4 limit 0 or above the pixels
 abbrev pub limitRefusal : ℕ → ℕ → ℕ → ℕ
@@ -55,26 +68,31 @@ workRefusal pixels work later = refuse (ltb work (8 * pixels)) 6 later
 
 -- ---- operation by operation
 
--- a plate, a limit and an output of as many pixels: 1, 2, 3, 4, 5, 6
-unfoldable pub filterRefusal : ℕ → ℕ → ℕ → ℕ → List ℕ → ℕ → ℕ → ℕ
-unfolding connectivityFits gridFits
-filterRefusal k w h limit f out work =
-    plateRefusal k w h f (limitRefusal (w * h) limit (outRefusal (w * h) out (workRefusal (w * h) work 0)))
+-- a plate, a limit and an output of as many pixels: 1, 2, 29, 3, 28, 4, 5, 6
+unfoldable pub filterRefusal : ℕ → ℕ → ℕ → ℕ → ℕ → List ℕ → ℕ → ℕ → ℕ
+unfolding connectivityFits gridFits greatestFits anyAbove
+filterRefusal k w h M limit f out work =
+    plateRefusal k w h M f (limitRefusal (w * h) limit (outRefusal (w * h) out (workRefusal (w * h) work 0)))
 
 -- cleaning: 26, then the same
-unfoldable pub cleanRefusal : ℕ → ℕ → ℕ → ℕ → ℕ → List ℕ → ℕ → ℕ → ℕ
+unfoldable pub cleanRefusal : ℕ → ℕ → ℕ → ℕ → ℕ → ℕ → List ℕ → ℕ → ℕ → ℕ
 unfolding sideFits filterRefusal
-cleanRefusal side k w h limit f out work = sideRefusal side (filterRefusal k w h limit f out work)
+cleanRefusal side k w h M limit f out work = sideRefusal side (filterRefusal k w h M limit f out work)
 
--- marking maxima: 1, 2, 3, 5, 6
-unfoldable pub maximaRefusal : ℕ → ℕ → ℕ → List ℕ → ℕ → ℕ → ℕ
-unfolding connectivityFits gridFits
-maximaRefusal k w h f out work = plateRefusal k w h f (outRefusal (w * h) out (workRefusal (w * h) work 0))
+-- marking maxima: 1, 2, 29, 3, 28, 5, 6
+unfoldable pub maximaRefusal : ℕ → ℕ → ℕ → ℕ → List ℕ → ℕ → ℕ → ℕ
+unfolding connectivityFits gridFits greatestFits anyAbove
+maximaRefusal k w h M f out work = plateRefusal k w h M f (outRefusal (w * h) out (workRefusal (w * h) work 0))
 
--- node list, writing a record: 1, 2, 3, 6, then 5 when the answer needs more places than were lent
-unfoldable pub treeRefusal : ℕ → ℕ → ℕ → List ℕ → ℕ → ℕ → ℕ → ℕ
-unfolding connectivityFits gridFits
-treeRefusal k w h f needed out work = plateRefusal k w h f (workRefusal (w * h) work (outRefusal needed out 0))
+-- node list, writing a record: 1, 2, 29, 3, 28, 6, then 5 when the answer needs more places than were lent
+unfoldable pub treeRefusal : ℕ → ℕ → ℕ → ℕ → List ℕ → ℕ → ℕ → ℕ → ℕ
+unfolding connectivityFits gridFits greatestFits anyAbove
+treeRefusal k w h M f needed out work = plateRefusal k w h M f (workRefusal (w * h) work (outRefusal needed out 0))
+
+-- the ink percentage: 29, then 28
+unfoldable pub inkRefusal : ℕ → ℕ → ℕ
+unfolding greatestFits
+inkRefusal M g = greatestRefusal M (refuse (ltb M g) 28 0)
 
 -- where the work of an operation whose last condition is 5 began
 abbrev pub began : ℕ → Bool

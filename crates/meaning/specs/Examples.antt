@@ -3,7 +3,7 @@ use mathlib.Core.List.{List, [], _∷_}
 use Prim.Native.Nat.{ℕ, _*_}
 use Rattle.meaning.specs.Opening.{cleaned, lightSide, darkSide}
 use Rattle.meaning.specs.Ink.{inkOf}
-use Rattle.meaning.specs.Plate.{greatestGrey, touch, onTrimEdge}
+use Rattle.meaning.specs.Plate.{byteGreatest, touch, onTrimEdge}
 use Rattle.meaning.specs.Sets.{bit, table}
 
 -- rows 10 10 10 10 / 10 50 30 10 / 10 10 10 90
@@ -21,8 +21,8 @@ pub record Case : Type 0 where
 
 unfoldable pub run : Job → List ℕ
 unfolding cleaned inkOf
-run (cleaning side k limit) = cleaned side k 4 3 greatestGrey limit small
-run (ink g) = inkOf greatestGrey g ∷ []
+run (cleaning side k limit) = cleaned side k 4 3 byteGreatest limit small
+run (ink g) = inkOf byteGreatest g ∷ []
 
 abbrev case : Job → List ℕ → Case
 case j a = record { job = j; answer = a }

@@ -15,9 +15,9 @@ maxGreatest = 65535
 unfoldable pub greatestFits : ℕ → Bool
 greatestFits M = leb 1 M && leb M maxGreatest
 
--- the greatest grey of the plates that the operations take, whose greys are bytes
-abbrev pub greatestGrey : ℕ
-greatestGrey = 255
+-- the greatest grey that is a byte: that of every record in the old form, and the last with one byte a pixel in a plate file
+abbrev pub byteGreatest : ℕ
+byteGreatest = 255
 
 -- the greatest width or height, and the most pixels, of the grid
 abbrev pub maxExtent : ℕ

@@ -4,7 +4,7 @@ use mathlib.Core.Bool.{true, _&&_}
 use Prim.Native.Nat.{ℕ, _*_, _≤_}
 use native.Mathlib.Nat.{mul-le-mul}
 use lib.Dec.{T, leb, leb→le}
-use Rattle.meaning.specs.Plate.{greatestFits, greatestGrey, gridFits, maxGreatest, maxPixels, maxExtent}
+use Rattle.meaning.specs.Plate.{byteGreatest, greatestFits, gridFits, maxGreatest, maxPixels, maxExtent}
 use Rattle.theory_lists.proofs.Tests.{passes, tests}
 
 -- a width or a height that fits
@@ -49,7 +49,7 @@ greatest-range M e =
     record { least = leb→le 1 M (search tests); most = leb→le M maxGreatest (search tests) }
 
 -- that of a byte does
-pub byte-range : greatestFits greatestGrey ≡ true
+pub byte-range : greatestFits byteGreatest ≡ true
 unfolding greatestFits
 byte-range = refl
 

@@ -3,12 +3,13 @@ use mathlib.Core.Path.{_≡_, refl, sym, ap, _∙_}
 use mathlib.Core.Logic.{_⊎_, inl, inr}
 use mathlib.Core.Bool.{Bool, true, false, _||_}
 use mathlib.Core.List.{List, [], _∷_, _++_, map}
-use Prim.Native.Nat.{ℕ, zero, suc, _+_, _≤_, _<_}
+use Prim.Native.Nat.{ℕ, zero, suc, _+_, _-_, _≤_, _<_}
 use native.Mathlib.Nat.{not-suc-le-zero, le-of-suc-le-suc, zero-add, suc-add, add-zero, add-suc}
 use native.Mathlib.Decide.{decLe}
 use native.Mathlib.Omega.{arith}
 use lib.Dec.{T, eqb, eqb→eq, eqb-refl}
-use lib.ListN.{length, getD, length-map, length-append}
+use lib.ListN.{drop, length, getD, length-map, length-append, length-drop, take}
+use lib.Seq.{take-all}
 use Rattle.meaning.specs.Sets.{Distinct, area, bit, consIf, elem, gather, nth, place, rising, span, table}
 use Rattle.theory_lists.specs.Members.{Rising}
 use Rattle.theory_lists.proofs.Sets.{area-grows, below-suc}
@@ -321,3 +322,7 @@ distinct-area n (x ∷ xs) d i =
   where
     first : (x : ℕ) (xs : List ℕ) → T (eqb x x || elem xs x)
     first x xs = either-left (eqb x x) (elem xs x) (eqb-refl x)
+
+-- the part from a place on is all that is left
+pub take-rest : (s : List ℕ) (i : ℕ) → take (length s - i) (drop i s) ≡ drop i s
+take-rest s i = take-all (length s - i) (drop i s) (omega (arith, length-drop i s))
