@@ -7,6 +7,7 @@ use Rattle.meaning.specs.Nodes.{own}
 use Rattle.meaning.specs.Plate.{grey}
 use Rattle.meaning.specs.Sets.{table}
 use Rattle.theory_lists.proofs.Lists.{table-same}
+use Rattle.theory_connectivity.proofs.Sizes.{greatest-range}
 use Rattle.work_columns.specs.Columns.{Only, col}
 use Rattle.work_columns.specs.Layout.{VALUE, touchIn}
 use Rattle.work_columns.specs.declared.Shape.{Shape}
@@ -24,7 +25,12 @@ module _ {g : Shape} {f w w′ : List ℕ} {count : ℕ} (t : Tree g f w count) 
       → ValuesAre (g .pixels) (g .greatest) (table (g .pixels) h) w w′
   values-are v h e same low = record {
     frame = a .frame;
-    writable = record { room = t′ .room; owns = own-inside t′; low = λ p l. omega (arith, here p l, low p l) };
+    writable = record {
+      small = greatest-range (g .greatest) (t .plate .range) .most;
+      room = t′ .room;
+      owns = own-inside t′;
+      low = λ p l. omega (arith, here p l, low p l);
+    };
     by-pixel = table-same (g .pixels) (valueAt (g .pixels) w′) h here;
   }
     where

@@ -4,7 +4,7 @@ use mathlib.Core.Bool.{Bool}
 use mathlib.Core.List.{List, _++_}
 use Prim.Native.Nat.{ℕ, suc, _*_, _≤_, _<_}
 use lib.ListN.{length, drop, replicate}
-use Rattle.meaning.specs.Plate.{greatestGrey}
+use Rattle.meaning.specs.Plate.{maxGreatest}
 use Rattle.meaning.specs.Answers.{over}
 use Rattle.meaning.specs.Sets.{table}
 use Rattle.work_columns.specs.Columns.{Frame, Only, Room, col}
@@ -18,8 +18,9 @@ valueAt n w p = col VALUE n w (col OWN n w p)
 abbrev pub valuesIn : ℕ → List ℕ → List ℕ
 valuesIn n w = table n (valueAt n w)
 
--- each is a grey
+-- each is a grey up to M, which fits
 pub record Writable (n M : ℕ) (w : List ℕ) : Type 0 where
+  pub small : M ≤ maxGreatest
   pub room : Room w n
   pub owns : (p : ℕ) → p < n → col OWN n w p < n
   pub low : (p : ℕ) → p < n → valueAt n w p ≤ M
@@ -57,10 +58,6 @@ pub record Ones (n count : ℕ) (w w′ : List ℕ) : Type 0 where
   pub values : (i : ℕ) → i < count → col VALUE n w′ i ≡ 1
 
 -- ---- writing
-
--- each grey up to M is a byte
-abbrev pub ByteGreys : ℕ → Type 0
-ByteGreys M = M ≤ greatestGrey
 
 -- all values are written, and the columns are cleared
 pub record Delivered (negated : Bool) (n M : ℕ) (w w′ out out′ : List ℕ) : Type 0 where

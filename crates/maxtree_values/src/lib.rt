@@ -11,7 +11,7 @@ ghost use Rattle.work_columns.specs.Columns.{Room, col};
 ghost use Rattle.work_columns.specs.Layout.{ATTRIBUTE, greysIn};
 ghost use Rattle.maxtree_columns.specs.Tree.{TreeStands};
 ghost use Rattle.plate_greys.specs.Sides.{sideGrey, sidePlate};
-ghost use Rattle.maxtree_values.specs.Values.{Climbable, Climbed, ValuesAre, Ones, Writable, valueAt, valuesIn, ByteGreys, Delivered, Copyable};
+ghost use Rattle.maxtree_values.specs.Values.{Climbable, Climbed, ValuesAre, Ones, Writable, valueAt, valuesIn, Delivered, Copyable};
 use work_columns::ATTRIBUTE;
 use work_columns::LEVEL;
 use work_columns::OWN;
@@ -105,19 +105,19 @@ pub fn mark_leaves(w: &mut [u32], g: Shape, count: usize)
 }
 
 // The value of the own node of pixel p, or its negative.
-fn out_value(w: &[u32], n: usize, negated: bool, greatest: usize, p: usize) -> u8
-    requires { ⌜ Writable n greatest (now w) × ByteGreys greatest ⌝ }
+fn out_value(w: &[u32], n: usize, negated: bool, greatest: usize, p: usize) -> u16
+    requires { ⌜ Writable n greatest (now w) ⌝ }
     requires { ⌜ p < n ⌝ }
     ensures { λ r. ⌜ r ≡ sideGrey negated greatest (valueAt n (now (w .entry)) p) ⌝ }
 {
     let node = work_columns::get(w, n, OWN, p);
     let value = work_columns::get(w, n, VALUE, node);
-    plate_greys::side_grey(negated, greatest, value) as u8
+    plate_greys::side_grey(negated, greatest, value) as u16
 }
 
 // Writes, for each pixel, the value of its own node, or the negative of that value.
-pub fn write_values(w: &[u32], n: usize, negated: bool, greatest: usize, out: &mut [u8])
-    requires { ⌜ Writable n greatest (now w) × ByteGreys greatest ⌝ }
+pub fn write_values(w: &[u32], n: usize, negated: bool, greatest: usize, out: &mut [u16])
+    requires { ⌜ Writable n greatest (now w) ⌝ }
     requires { ⌜ n ≤ length (now out) ⌝ }
     ensures { λ _. ⌜ now (out .exit) ≡ over (sidePlate negated greatest (valuesIn n (now (w .entry)))) (now (out .entry)) ⌝ }
 {
@@ -129,8 +129,8 @@ pub fn write_values(w: &[u32], n: usize, negated: bool, greatest: usize, out: &m
 }
 
 // Writes the values as `write_values` does, and sets the work space to zero.
-pub fn deliver(w: &mut [u32], n: usize, negated: bool, greatest: usize, out: &mut [u8])
-    requires { ⌜ Writable n greatest (now w) × ByteGreys greatest ⌝ }
+pub fn deliver(w: &mut [u32], n: usize, negated: bool, greatest: usize, out: &mut [u16])
+    requires { ⌜ Writable n greatest (now w) ⌝ }
     requires { ⌜ n ≤ length (now out) ⌝ }
     ensures { λ _. ⌜ Delivered negated n greatest (now (w .entry)) (now (w .exit)) (now (out .entry)) (now (out .exit)) ⌝ }
 {

@@ -7,7 +7,6 @@ use lib.Dec.{eqb}
 use lib.ListN.{length, drop, replicate}
 use borrow.Author.Tests.{ne-eqb}
 use Rattle.meaning.specs.Nodes.{areaOf, levelOf, parent}
-use Rattle.meaning.specs.Plate.{greatestGrey}
 use Rattle.work_columns.specs.Layout.{ANCHOR, AREA, LEVEL, PARENT, shapeOf}
 use Rattle.maxtree_columns.proofs.Tree.{few-nodes}
 use Rattle.plate_tree.specs.PlateTree.{PlateTree}
@@ -16,14 +15,14 @@ use Rattle.plate_tree.proofs.Starting.{list-done, list-refused}
 use Rattle.plate_filter.specs.Operations.{Columns, ColumnsWritten, Lent, NodesListed, anchorOf, placesOf}
 use Rattle.plate_filter.proofs.Results.{listed}
 
-module _ {k w h : ℕ} {f work w₁ : List ℕ} (out : Columns) {r count : ℕ} (s : Started k w h greatestGrey f (placesOf out) work w₁ r count) where
-  pub listed-refused : (r ≡ 0 → ⊥) → NodesListed k w h f out out work w₁ r count
+module _ {k w h M : ℕ} {f work w₁ : List ℕ} (out : Columns) {r count : ℕ} (s : Started k w h M f (placesOf out) work w₁ r count) where
+  pub listed-refused : (r ≡ 0 → ⊥) → NodesListed k w h M f out out work w₁ r count
   listed-refused x =
       let z : eqb r 0 ≡ false = ne-eqb r 0 x in
       record { answer = list-refused s x; levels = rw z; parents = rw z; areas = rw z; anchors = rw z }
 
   module _ (z : r ≡ 0) where
-    p : PlateTree false (shapeOf (length f) w h greatestGrey k) f work w₁ count
+    p : PlateTree false (shapeOf (length f) w h M k) f work w₁ count
     p = s .tree-stands z
 
     pub listed-lent : Lent (length f) count w₁ out
@@ -31,7 +30,7 @@ module _ {k w h : ℕ} {f work w₁ : List ℕ} (out : Columns) {r count : ℕ} 
 
     -- the columns
     pub listed-done : {w₂ : List ℕ} {out′ : Columns} → ColumnsWritten (length f) count w₁ out out′
-        → w₂ ≡ replicate (8 * length f) 0 ++ drop (8 * length f) w₁ → NodesListed k w h f out out′ work w₂ r count
+        → w₂ ≡ replicate (8 * length f) 0 ++ drop (8 * length f) w₁ → NodesListed k w h M f out out′ work w₂ r count
     listed-done d c = record {
       answer = list-done s z c;
       levels = d .levels ∙ rw (z, listed (p .tree) LEVEL levelOf (p .tree .level-is));

@@ -60,7 +60,7 @@ module _ {g : Shape} (k w h M : ℕ) (f : List ℕ) (shape : g ≡ shapeOf (leng
   pub pixels-are : g .pixels ≡ length f
   pixels-are = ap (λ (s : Shape). s .pixels) shape
 
-  pub greatest-is : g .greatest ≡ M
+  greatest-is : g .greatest ≡ M
   greatest-is = ap (λ (s : Shape). s .greatest) shape
 
   module _ {negated : Bool} {work w₁ : List ℕ} {count : ℕ} (stood : PlateTree negated g f work w₁ count) where

@@ -1,6 +1,6 @@
 -- The contracts of the operations on plates: the refusal, the outputs and the work space, each as an equation; and what is not refused is an accepted
 -- plate. k: connectivity, w: width, h: height, M: greatest grey, f: the plate; out, work: the buffers as they were lent, out′, work′: as they are left;
--- r: what was returned. The greys of the operations are bytes, so M is `greatestGrey`.
+-- r: what was returned.
 use mathlib.Core.Path.{_≡_}
 use mathlib.Core.Bool.{Bool}
 use mathlib.Core.List.{List}
@@ -11,7 +11,7 @@ use Rattle.meaning.specs.Answers.{cleanRefusal, maximaRefusal, outAfter, over, 
 use Rattle.meaning.specs.Maxima.{marks}
 use Rattle.meaning.specs.Nodes.{areaOf, levelOf, nodesOf, parent}
 use Rattle.meaning.specs.Opening.{cleaned}
-use Rattle.meaning.specs.Plate.{Plate, greatestGrey, grey, touch}
+use Rattle.meaning.specs.Plate.{Plate, grey, touch}
 use Rattle.meaning.specs.Sets.{nth, table}
 use Rattle.work_columns.specs.Columns.{Room, col}
 use Rattle.work_columns.specs.Layout.{ANCHOR, AREA, LEVEL, PARENT}
@@ -27,15 +27,14 @@ pub record PlateAnswered (k w h M : ℕ) (f : List ℕ) (refusal : ℕ) (answer 
   pub accepted : r ≡ 0 → Plate k w h M f
 
 -- cleaning on a side at a limit
-abbrev pub Cleaned : (side k w h limit : ℕ) (f out out′ work work′ : List ℕ) (r : ℕ) → Type 0
-Cleaned side k w h limit f out out′ work work′ r =
-    PlateAnswered k w h greatestGrey f (cleanRefusal side k w h limit f (length out) (length work)) (cleaned side k w h greatestGrey limit f)
-    out out′ work work′ r
+abbrev pub Cleaned : (side k w h M limit : ℕ) (f out out′ work work′ : List ℕ) (r : ℕ) → Type 0
+Cleaned side k w h M limit f out out′ work work′ r =
+    PlateAnswered k w h M f (cleanRefusal side k w h M limit f (length out) (length work)) (cleaned side k w h M limit f) out out′ work work′ r
 
 -- marking the regional maxima
-abbrev pub MaximaMarked : (k w h : ℕ) (f out out′ work work′ : List ℕ) (r : ℕ) → Type 0
-MaximaMarked k w h f out out′ work work′ r =
-    PlateAnswered k w h greatestGrey f (maximaRefusal k w h f (length out) (length work)) (marks k w f) out out′ work work′ r
+abbrev pub MaximaMarked : (k w h M : ℕ) (f out out′ work work′ : List ℕ) (r : ℕ) → Type 0
+MaximaMarked k w h M f out out′ work work′ r =
+    PlateAnswered k w h M f (maximaRefusal k w h M f (length out) (length work)) (marks k w f) out out′ work work′ r
 
 -- ---- the node list: one output for each column
 
@@ -65,8 +64,8 @@ columns levels parents areas anchors = record { levels = levels; parents = paren
 abbrev pub placesOf : Columns → ℕ
 placesOf out = shortest (length (out .levels)) (length (out .parents)) (length (out .areas)) (length (out .anchors))
 
-pub record NodesListed (k w h : ℕ) (f : List ℕ) (out out′ : Columns) (work work′ : List ℕ) (refusal count : ℕ) : Type 0 where
-  pub answer : ListAnswered k w h greatestGrey f (placesOf out) work work′ refusal count
+pub record NodesListed (k w h M : ℕ) (f : List ℕ) (out out′ : Columns) (work work′ : List ℕ) (refusal count : ℕ) : Type 0 where
+  pub answer : ListAnswered k w h M f (placesOf out) work work′ refusal count
   pub levels : out′ .levels ≡ outAfter refusal (column k w f levelOf) (out .levels)
   pub parents : out′ .parents ≡ outAfter refusal (column k w f parent) (out .parents)
   pub areas : out′ .areas ≡ outAfter refusal (column k w f areaOf) (out .areas)

@@ -3,7 +3,6 @@ ghost use mathlib.Core.Path.{_≡_};
 ghost use Prim.Native.Nat.{min};
 ghost use Rattle.plate_filter.specs.Operations.{Cleaned, MaximaMarked, NodesListed, columns, shortest, Lent, ColumnsWritten};
 use plate_refusals::DARK;
-use plate_refusals::GREATEST_GREY;
 use plate_tree::NodeList;
 use work_columns::ANCHOR;
 use work_columns::AREA;
@@ -13,15 +12,16 @@ use work_columns::PARENT;
 // Cleans a plate at a limit on its light side or its dark side.
 pub fn clean(
     side: u32,
-    image: &[u8],
+    image: &[u16],
     width: u32,
     height: u32,
+    greatest: u32,
     connectivity: u32,
     limit: u32,
-    out: &mut [u8],
+    out: &mut [u16],
     work: &mut [u32],
 ) -> u32
-    ensures { λ r. ⌜ Cleaned side connectivity width height limit (now (image .entry))
+    ensures { λ r. ⌜ Cleaned side connectivity width height greatest limit (now (image .entry))
         (now (out .entry)) (now (out .exit)) (now (work .entry)) (now (work .exit)) r ⌝ }
 {
     let n = image.len();
@@ -30,6 +30,7 @@ pub fn clean(
         connectivity,
         width,
         height,
+        greatest,
         limit,
         image,
         out.len(),
@@ -39,7 +40,7 @@ pub fn clean(
         return refusal;
     }
     let negated = side == DARK;
-    let g = work_columns::shape_of(n, width, height, GREATEST_GREY, connectivity);
+    let g = work_columns::shape_of(n, width, height, greatest, connectivity);
     let count = plate_tree::plate_tree(image, negated, g, work);
     maxtree_values::cut_values(work, g, count, limit as usize);
     maxtree_values::deliver(work, n, negated, g.greatest, out);
@@ -48,14 +49,15 @@ pub fn clean(
 
 // Marks the regional maxima of a plate: 1 inside one, 0 elsewhere.
 pub fn regional_maxima(
-    image: &[u8],
+    image: &[u16],
     width: u32,
     height: u32,
+    greatest: u32,
     connectivity: u32,
-    out: &mut [u8],
+    out: &mut [u16],
     work: &mut [u32],
 ) -> u32
-    ensures { λ r. ⌜ MaximaMarked connectivity width height (now (image .entry))
+    ensures { λ r. ⌜ MaximaMarked connectivity width height greatest (now (image .entry))
         (now (out .entry)) (now (out .exit)) (now (work .entry)) (now (work .exit)) r ⌝ }
 {
     let n = image.len();
@@ -63,6 +65,7 @@ pub fn regional_maxima(
         connectivity,
         width,
         height,
+        greatest,
         image,
         out.len(),
         work.len(),
@@ -70,7 +73,7 @@ pub fn regional_maxima(
     if refusal != 0 {
         return refusal;
     }
-    let g = work_columns::shape_of(n, width, height, GREATEST_GREY, connectivity);
+    let g = work_columns::shape_of(n, width, height, greatest, connectivity);
     let count = plate_tree::plate_tree(image, false, g, work);
     maxtree_values::mark_leaves(work, g, count);
     maxtree_values::deliver(work, n, false, g.greatest, out);
@@ -114,9 +117,10 @@ fn write_nodes(
 
 // The nodes of a plate, one column for each of level, parent (0 for the root), area and anchor.
 pub fn node_list(
-    image: &[u8],
+    image: &[u16],
     width: u32,
     height: u32,
+    greatest: u32,
     connectivity: u32,
     levels: &mut [u32],
     parents: &mut [u32],
@@ -124,21 +128,13 @@ pub fn node_list(
     anchors: &mut [u32],
     work: &mut [u32],
 ) -> NodeList
-    ensures { λ r. ⌜ NodesListed connectivity width height (now (image .entry))
+    ensures { λ r. ⌜ NodesListed connectivity width height greatest (now (image .entry))
         (columns (now (levels .entry)) (now (parents .entry)) (now (areas .entry)) (now (anchors .entry)))
         (columns (now (levels .exit)) (now (parents .exit)) (now (areas .exit)) (now (anchors .exit)))
         (now (work .entry)) (now (work .exit)) (r .refusal) (r .count) ⌝ }
 {
     let places = shortest(levels.len(), parents.len(), areas.len(), anchors.len());
-    let list = plate_tree::start_list(
-        image,
-        width,
-        height,
-        GREATEST_GREY,
-        connectivity,
-        places,
-        work,
-    );
+    let list = plate_tree::start_list(image, width, height, greatest, connectivity, places, work);
     if list.refusal != 0 {
         return list;
     }

@@ -14,14 +14,15 @@ pub fn side_grey(negated: bool, greatest: usize, grey: usize) -> usize
 }
 
 // Copies the greys of a plate, or of its negative, into the work space.
-pub fn load(image: &[u8], negated: bool, greatest: usize, work: &mut [u32])
+pub fn load(image: &[u16], negated: bool, greatest: usize, work: &mut [u32])
     requires { ⌜ Loadable greatest (now image) (now work) ⌝ }
     ensures { λ _. ⌜ Loaded negated greatest (now (image .entry)) (now (work .entry)) (now (work .exit)) ⌝ }
 {
     let n = image.len();
     let mut p: usize = 0;
     while p < n {
-        let g = side_grey(negated, greatest, image[p] as usize);
+        let grey = image[p];
+        let g = side_grey(negated, greatest, grey as usize);
         work_columns::put(work, n, GREY, p, g);
         p += 1;
     }

@@ -3,18 +3,15 @@ ghost use mathlib.Core.Path.{_≡_};
 ghost use mathlib.Core.Bool.{_&&_};
 ghost use Prim.Native.Nat.{_*_};
 ghost use lib.Dec.{leb};
-ghost use Rattle.meaning.specs.Plate.{gridFits, connectivityFits, maxExtent};
+ghost use Rattle.meaning.specs.Plate.{gridFits, connectivityFits, greatestFits, maxExtent};
 ghost use Rattle.meaning.specs.Opening.{sideFits};
-ghost use Rattle.meaning.specs.Answers.{plateRefusal, limitRefusal, outRefusal, tablesRefusal, workRefusal};
+ghost use Rattle.meaning.specs.Answers.{anyAbove, plateRefusal, limitRefusal, outRefusal, tablesRefusal, workRefusal};
 ghost use Rattle.meaning.specs.Answers.{filterRefusal, cleanRefusal, maximaRefusal};
 
 // The sides on which a plate is cleaned.
 pub const LIGHT: u32 = 1;
 
 pub const DARK: u32 = 2;
-
-// The greatest grey of the plates that the operations take, whose greys are bytes.
-pub const GREATEST_GREY: u32 = 255;
 
 // Is the side light or dark?
 fn side_fits(side: u32) -> bool
@@ -49,6 +46,29 @@ pub fn grid_fits(width: u32, height: u32) -> bool
     false
 }
 
+// Is the greatest grey from 1 to 65,535?
+pub fn greatest_fits(greatest: u32) -> bool
+    ensures { λ r. ⌜ r ≡ greatestFits greatest ⌝ }
+{
+    1 <= greatest && greatest <= 65535
+}
+
+// Is a pixel above the greatest grey?
+pub fn any_above(image: &[u16], greatest: u32) -> bool
+    ensures { λ r. ⌜ r ≡ anyAbove greatest (now (image .entry)) ⌝ }
+{
+    let n = image.len();
+    let mut p: usize = 0;
+    while p < n {
+        let grey = image[p];
+        if greatest < grey as u32 {
+            return true;
+        }
+        p += 1;
+    }
+    false
+}
+
 // Is a limit from 1 to the pixels?
 fn limit_fits(limit: u32, pixels: usize) -> bool
     ensures { λ r. ⌜ r ≡ (leb 1 limit && leb limit pixels) ⌝ }
@@ -56,9 +76,15 @@ fn limit_fits(limit: u32, pixels: usize) -> bool
     1 <= limit && limit as usize <= pixels
 }
 
-// 1, 2 and 3 of a plate.
-pub fn plate_refusal(connectivity: u32, width: u32, height: u32, image: &[u8]) -> u32
-    ensures { λ r. ⌜ r ≡ plateRefusal connectivity width height (now (image .entry)) 0 ⌝ }
+// 1, 2, 29, 3 and 28 of a plate.
+pub fn plate_refusal(
+    connectivity: u32,
+    width: u32,
+    height: u32,
+    greatest: u32,
+    image: &[u16],
+) -> u32
+    ensures { λ r. ⌜ r ≡ plateRefusal connectivity width height greatest (now (image .entry)) 0 ⌝ }
 {
     if !connectivity_fits(connectivity) {
         return 1;
@@ -66,8 +92,14 @@ pub fn plate_refusal(connectivity: u32, width: u32, height: u32, image: &[u8]) -
     if !grid_fits(width, height) {
         return 2;
     }
+    if !greatest_fits(greatest) {
+        return 29;
+    }
     if image.len() != (width * height) as usize {
         return 3;
+    }
+    if any_above(image, greatest) {
+        return 28;
     }
     0
 }
@@ -122,14 +154,15 @@ fn filter_refusal(
     connectivity: u32,
     width: u32,
     height: u32,
+    greatest: u32,
     limit: u32,
-    image: &[u8],
+    image: &[u16],
     out: usize,
     work: usize,
 ) -> u32
-    ensures { λ r. ⌜ r ≡ filterRefusal connectivity width height limit (now (image .entry)) out work ⌝ }
+    ensures { λ r. ⌜ r ≡ filterRefusal connectivity width height greatest limit (now (image .entry)) out work ⌝ }
 {
-    let refusal = plate_refusal(connectivity, width, height, image);
+    let refusal = plate_refusal(connectivity, width, height, greatest, image);
     if refusal != 0 {
         return refusal;
     }
@@ -146,17 +179,27 @@ pub fn clean_refusal(
     connectivity: u32,
     width: u32,
     height: u32,
+    greatest: u32,
     limit: u32,
-    image: &[u8],
+    image: &[u16],
     out: usize,
     work: usize,
 ) -> u32
-    ensures { λ r. ⌜ r ≡ cleanRefusal side connectivity width height limit (now (image .entry)) out work ⌝ }
+    ensures { λ r. ⌜ r ≡ cleanRefusal side connectivity width height greatest limit (now (image .entry)) out work ⌝ }
 {
     if !side_fits(side) {
         return 26;
     }
-    filter_refusal(connectivity, width, height, limit, image, out, work)
+    filter_refusal(
+        connectivity,
+        width,
+        height,
+        greatest,
+        limit,
+        image,
+        out,
+        work,
+    )
 }
 
 // The refusal of marking maxima.
@@ -164,13 +207,14 @@ pub fn maxima_refusal(
     connectivity: u32,
     width: u32,
     height: u32,
-    image: &[u8],
+    greatest: u32,
+    image: &[u16],
     out: usize,
     work: usize,
 ) -> u32
-    ensures { λ r. ⌜ r ≡ maximaRefusal connectivity width height (now (image .entry)) out work ⌝ }
+    ensures { λ r. ⌜ r ≡ maximaRefusal connectivity width height greatest (now (image .entry)) out work ⌝ }
 {
-    let refusal = plate_refusal(connectivity, width, height, image);
+    let refusal = plate_refusal(connectivity, width, height, greatest, image);
     if refusal != 0 {
         return refusal;
     }
@@ -181,11 +225,18 @@ pub fn maxima_refusal(
     work_refusal(image.len(), work)
 }
 
-// 1, 2, 3 and 6 of the node list and of writing a record, which precede any work.
-pub fn tree_refusal(connectivity: u32, width: u32, height: u32, image: &[u8], work: usize) -> u32
-    ensures { λ r. ⌜ r ≡ plateRefusal connectivity width height (now (image .entry)) (workRefusal (width * height) work 0) ⌝ }
+// 1, 2, 29, 3, 28 and 6 of the node list and of writing a record, which precede any work.
+pub fn tree_refusal(
+    connectivity: u32,
+    width: u32,
+    height: u32,
+    greatest: u32,
+    image: &[u16],
+    work: usize,
+) -> u32
+    ensures { λ r. ⌜ r ≡ plateRefusal connectivity width height greatest (now (image .entry)) (workRefusal (width * height) work 0) ⌝ }
 {
-    let refusal = plate_refusal(connectivity, width, height, image);
+    let refusal = plate_refusal(connectivity, width, height, greatest, image);
     if refusal != 0 {
         return refusal;
     }

@@ -2,56 +2,48 @@
 use mathlib.Core.Path.{_≡_, refl, sym, _∙_}
 use mathlib.Core.Bool.{Bool, true}
 use mathlib.Core.List.{List, _++_}
-use Prim.Native.Nat.{ℕ, _*_, _≤_, _<_}
+use Prim.Native.Nat.{ℕ, _*_, _≤_}
 use native.Mathlib.Omega.{arith}
 use lib.ListN.{length, drop, replicate}
 use Rattle.meaning.specs.Answers.{workAfter}
-use Rattle.meaning.specs.Plate.{Plate, greatestGrey, grey}
-use Rattle.theory_connectivity.proofs.Sizes.{byte-range, greatest-range}
+use Rattle.meaning.specs.Plate.{Plate}
+use Rattle.theory_connectivity.proofs.Sizes.{greatest-range}
 use Rattle.work_columns.specs.Columns.{Frame, Room}
 use Rattle.work_columns.specs.Layout.{Buildable, greysIn, shapeOf}
 use Rattle.work_columns.specs.declared.Shape.{Shape}
 use Rattle.work_columns.proofs.Columns.{cleared, frame-room, frame-trans}
 use Rattle.maxtree_columns.specs.Tree.{Built}
 use Rattle.maxtree_columns.proofs.Greys.{greys-plate}
-use Rattle.plate_refusals.proofs.Refusals.{Taken, plate-later, plate-taken, taken-few}
+use Rattle.plate_refusals.proofs.Refusals.{taken-few}
 use Rattle.plate_greys.specs.Loading.{Loadable, Loaded}
 use Rattle.plate_greys.specs.Sides.{sidePlate}
 use Rattle.plate_greys.proofs.Sides.{side-plate-length}
-use Rattle.plate_tree.specs.PlateTree.{GreysFit, PlateReady, PlateTree}
+use Rattle.plate_tree.specs.PlateTree.{PlateReady, PlateTree}
 
--- bytes are greys up to the greatest of a byte
-pub bytes-fit : (f : List ℕ) → ((p : ℕ) → grey f p ≤ greatestGrey) → GreysFit greatestGrey f
-bytes-fit f bytes = record { range = byte-range; greys = λ p l. bytes p }
-
--- a plate that is not refused, with its space and its shape
-pub plate-ready : {g : Shape} {k w h M : ℕ} {f work : List ℕ} → g ≡ shapeOf (length f) w h M k → GreysFit M f → Taken k w h f
-    → 8 * (w * h) ≤ length work → PlateReady g f work
-plate-ready shape fit taken space =
-    rw shape (record { fit = fit; taken = plate-later taken (λ _. 0); pixels = refl; room = omega (arith, taken .long) })
+-- an accepted plate, with its space and its shape
+pub plate-ready : {g : Shape} {k w h M : ℕ} {f work : List ℕ} → g ≡ shapeOf (length f) w h M k → Plate k w h M f → 8 * (w * h) ≤ length work
+    → PlateReady g f work
+plate-ready shape plate space = rw shape (record { plate = plate; pixels = refl; room = omega (arith, plate .long) })
 
 module _ {g : Shape} {f work : List ℕ} (can : PlateReady g f work) where
-  taken : Taken (g .connectivity) (g .width) (g .height) f
-  taken = plate-taken (g .connectivity) (g .width) (g .height) f refl (can .taken)
-
   ready-room : Room work (length f)
-  ready-room = record { small = taken-few taken; room = omega (arith, can .room, can .pixels) }
+  ready-room = record { small = taken-few (can .plate); room = omega (arith, can .room, can .pixels) }
 
   pub ready-loadable : Loadable (g .greatest) f work
   ready-loadable = record {
     room = ready-room;
-    small = greatest-range (g .greatest) (can .fit .range) .most;
-    greys = can .fit .greys;
+    small = greatest-range (g .greatest) (can .plate .range) .most;
+    greys = can .plate .greys;
   }
 
   module _ {negated : Bool} {work′ : List ℕ} (copied : Loaded negated (g .greatest) f work work′) where
     pub ready-buildable : Buildable g work′
     ready-buildable = record {
       room = rw (can .pixels) (frame-room ready-room (copied .frame));
-      kind = taken .kind;
-      sizes = taken .grid;
-      range = can .fit .range;
-      product = can .pixels ∙ taken .long;
+      kind = can .plate .kind;
+      sizes = can .plate .sizes;
+      range = can .plate .range;
+      product = can .pixels ∙ can .plate .long;
       greys = rw (can .pixels) (copied .greys);
     }
 
@@ -61,7 +53,7 @@ module _ {g : Shape} {f work : List ℕ} (can : PlateReady g f work) where
         let same : greysIn (g .pixels) work′ ≡ sidePlate negated M f =
         greys-plate (g .pixels) work′ (sidePlate negated M f) (side-plate-length negated M f ∙ sym (can .pixels)) (rw (can .pixels) (copied .same)) in
         record {
-          plate = record { kind = taken .kind; sizes = taken .grid; range = can .fit .range; long = taken .long; greys = can .fit .greys };
+          plate = can .plate;
           frame = frame-trans (rw (can .pixels) (copied .frame)) (did .frame);
           tree = rw same at (did .tree);
         }

@@ -14,20 +14,20 @@ use Rattle.work_columns.specs.Columns.{Room}
 use Rattle.work_columns.specs.Layout.{shapeOf}
 use Rattle.work_columns.specs.declared.Shape.{Shape}
 use Rattle.maxtree_columns.proofs.Tree.{few-nodes}
-use Rattle.plate_tree.specs.PlateTree.{GreysFit, PlateReady, PlateTree}
+use Rattle.plate_tree.specs.PlateTree.{PlateReady, PlateTree}
 use Rattle.plate_tree.specs.Listing.{ListAnswered, Started, nodeListRefusal}
 use Rattle.plate_tree.proofs.Building.{cleared-space, plate-ready}
 
--- r: what was found to be the refusal by 1, 2, 3 and 6
-module _ (k w h M : ℕ) (f work : List ℕ) (places : ℕ) {r : ℕ} (e : r ≡ plateRefusal k w h f (workRefusal (w * h) (length work) 0)) where
+-- r: what was found to be the refusal by 1, 2, 29, 3, 28 and 6
+module _ (k w h M : ℕ) (f work : List ℕ) (places : ℕ) {r : ℕ} (e : r ≡ plateRefusal k w h M f (workRefusal (w * h) (length work) 0)) where
   -- one of them
   pub started-refused : (r ≡ 0 → ⊥) → Started k w h M f places work work r 0
   unfolding nodeListRefusal
   started-refused x =
       let z : eqb r 0 ≡ false = ne-eqb r 0 x in
-      let y : eqb r 5 ≡ false = ne-eqb r 5 (tree-early k w h f (length work) e) in
+      let y : eqb r 5 ≡ false = ne-eqb r 5 (tree-early k w h M f (length work) e) in
       record {
-        number = tree-first k w h f (length work) e x (length (nodesOf k w f)) places;
+        number = tree-first k w h M f (length work) e x (length (nodesOf k w f)) places;
         counted = rw z;
         fits = omega arith;
         stopped = λ _. rw (z, y);
@@ -35,12 +35,12 @@ module _ (k w h M : ℕ) (f work : List ℕ) (places : ℕ) {r : ℕ} (e : r ≡
       }
 
   module _ (z : r ≡ 0) where
-    listable : Listable k w h f (length work)
-    listable = tree-none k w h f (length work) e z
+    listable : Listable k w h M f (length work)
+    listable = tree-none k w h M f (length work) e z
 
     module _ {g : Shape} (shape : g ≡ shapeOf (length f) w h M k) where
-      pub started-ready : GreysFit M f → PlateReady g f work
-      started-ready fit = plate-ready shape fit (listable .taken) (listable .space)
+      pub started-ready : PlateReady g f work
+      started-ready = plate-ready shape (listable .taken) (listable .space)
 
       module _ {w₁ : List ℕ} {count : ℕ} (stood : PlateTree false g f work w₁ count) where
         p : PlateTree false (shapeOf (length f) w h M k) f work w₁ count
@@ -53,7 +53,7 @@ module _ (k w h M : ℕ) (f work : List ℕ) (places : ℕ) {r : ℕ} (e : r ≡
         pub started-count : count < 4294967296
         started-count = omega (arith, few-nodes (p .tree), p .tree .room .small)
 
-        refusal-is : nodeListRefusal k w h f places (length work) ≡ outRefusal count places 0
+        refusal-is : nodeListRefusal k w h M f places (length work) ≡ outRefusal count places 0
         unfolding nodeListRefusal
         refusal-is = tree-later listable (length (nodesOf k w f)) places ∙ rw (p .tree .nodes)
 

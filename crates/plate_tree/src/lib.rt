@@ -1,11 +1,11 @@
 // The component tree of a plate, from the plate to the columns of the work space, and the start of a node list from it.
 ghost use mathlib.Core.Path.{_≡_};
-ghost use Rattle.plate_tree.specs.PlateTree.{GreysFit, PlateReady, PlateTree};
+ghost use Rattle.plate_tree.specs.PlateTree.{PlateReady, PlateTree};
 ghost use Rattle.plate_tree.specs.Listing.{Started};
 use work_columns::Shape;
 
 // Builds the component tree of a plate, or of its negative, in the work space. Returns the number of nodes.
-pub fn plate_tree(image: &[u8], negated: bool, g: Shape, work: &mut [u32]) -> usize
+pub fn plate_tree(image: &[u16], negated: bool, g: Shape, work: &mut [u32]) -> usize
     requires { ⌜ PlateReady g (now image) (now work) ⌝ }
     ensures { λ r. ⌜ PlateTree negated g (now (image .entry)) (now (work .entry)) (now (work .exit)) r ⌝ }
 {
@@ -37,9 +37,9 @@ fn refused(refusal: u32) -> NodeList
     }
 }
 
-// Starts a node list with so many places, of a plate of greys up to `greatest`: its component tree stands in the work space, or the list is refused.
+// Starts a node list with so many places, of a plate: its component tree stands in the work space, or the list is refused.
 pub fn start_list(
-    image: &[u8],
+    image: &[u16],
     width: u32,
     height: u32,
     greatest: u32,
@@ -47,12 +47,18 @@ pub fn start_list(
     places: usize,
     work: &mut [u32],
 ) -> NodeList
-    requires { ⌜ GreysFit greatest (now image) ⌝ }
     ensures { λ r. ⌜ Started connectivity width height greatest (now (image .entry)) places
         (now (work .entry)) (now (work .exit)) (r .refusal) (r .count) ⌝ }
 {
     let n = image.len();
-    let refusal = plate_refusals::tree_refusal(connectivity, width, height, image, work.len());
+    let refusal = plate_refusals::tree_refusal(
+        connectivity,
+        width,
+        height,
+        greatest,
+        image,
+        work.len(),
+    );
     if refusal != 0 {
         return refused(refusal);
     }

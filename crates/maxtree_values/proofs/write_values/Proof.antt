@@ -31,6 +31,9 @@ loop-holds c = (omega arith, refl, refl)
 out-value-requires : tie.Need-out-value-requires Inv-loop μ-loop
 out-value-requires c κs = (c .before .before .before .before .pre .0, c .loop-test .taken)
 
+mul-out : tie.Need-mul-out Inv-loop μ-loop
+mul-out c = omega arith
+
 slice-write-out : tie.Need-slice-write-out Inv-loop μ-loop
 slice-write-out c = omega arith
 
@@ -69,6 +72,7 @@ write-values-spec =
     μ-loop
     loop-holds
     out-value-requires
+    mul-out
     slice-write-out
     add-p
     loop-less

@@ -7,11 +7,10 @@ use denote.Ref.{now}
 use lib.ListN.{length}
 use Rattle.plate_filter.proofs.clean.Statement.{statement}
 use Rattle.plate_filter.proofs.clean.Tie as tie
-use Rattle.meaning.specs.Plate.{greatestGrey}
 use Rattle.maxtree_columns.proofs.Tree.{tree-here}
 use Rattle.plate_refusals.proofs.Refusals.{Filterable, clean-none}
-use Rattle.plate_tree.proofs.Building.{bytes-fit, plate-ready}
-use Rattle.plate_filter.proofs.Results.{answered, answered-refused, cleaned-is, greatest-is, pixels-are, written-able}
+use Rattle.plate_tree.proofs.Building.{plate-ready}
+use Rattle.plate_filter.proofs.Results.{answered, answered-refused, cleaned-is, pixels-are, written-able}
 
 clean-refusal-requires : tie.Need-clean-refusal-requires
 clean-refusal-requires c κs = search needs
@@ -22,10 +21,10 @@ returns c = answered-refused (c .before .clean-refusal .ensures) (c .if1 .taken)
 -- what the sizes say, where nothing is refused
 sized : (c : tie.Else1)
     → let s = c .before .before .before .before .before .args in
-    Filterable (s .connectivity) (s .width) (s .height) (s .limit) (now (s .image)) (length (now (s .out))) (length (now (s .work)))
+    Filterable (s .connectivity) (s .width) (s .height) (s .greatest) (s .limit) (now (s .image)) (length (now (s .out))) (length (now (s .work)))
 sized c =
     let s = c .before .before .before .before .before .args in
-    clean-none (s .side) (s .connectivity) (s .width) (s .height) (s .limit) (now (s .image)) (length (now (s .out))) (length (now (s .work)))
+    clean-none (s .side) (s .connectivity) (s .width) (s .height) (s .greatest) (s .limit) (now (s .image)) (length (now (s .out))) (length (now (s .work)))
     (sym (c .before .clean-refusal .ensures) ∙ c .if1 .left) .sizes
 
 limit-fits : (c : tie.Else1) → let s = c .before .before .before .before .before .args in s .limit ≤ length (now (s .image))
@@ -36,10 +35,7 @@ shape-of-requires c κs = search needs
 
 plate-tree-requires : tie.Need-plate-tree-requires
 plate-tree-requires c κs =
-    let z = sized (c .before .before) in
-    let k = c .before .before .before .before .before .before in
-    plate-ready (c .before .shape-of .ensures) (bytes-fit (now (k .before .args .image)) (λ p. omega (arith, k .shared-slice-known .given p)))
-    (z .taken) (z .space)
+    let z = sized (c .before .before) in plate-ready (c .before .shape-of .ensures) (z .taken) (z .space)
 
 cut-values-requires : tie.Need-cut-values-requires
 cut-values-requires c κs =
@@ -50,7 +46,7 @@ cut-values-requires c κs =
       omega (
         arith,
         limit-fits e,
-        pixels-are (s .connectivity) (s .width) (s .height) greatestGrey (now (s .image)) (p .before .before .shape-of .ensures),
+        pixels-are (s .connectivity) (s .width) (s .height) (s .greatest) (now (s .image)) (p .before .before .shape-of .ensures),
       ),
     )
 
@@ -62,10 +58,7 @@ deliver-requires c κs =
     let s = e .before .before .before .before .before .args in
     let z = sized e in
     let shape = p .before .before .shape-of .ensures in (
-      (
-        written-able (s .connectivity) (s .width) (s .height) greatestGrey (now (s .image)) shape (p .plate-tree .ensures) (t .cut-values .ensures),
-        omega (arith, greatest-is (s .connectivity) (s .width) (s .height) greatestGrey (now (s .image)) shape),
-      ),
+      written-able (s .connectivity) (s .width) (s .height) (s .greatest) (now (s .image)) shape (p .plate-tree .ensures) (t .cut-values .ensures),
       omega (arith, z .room, z .taken .long),
     )
 
@@ -83,9 +76,9 @@ returns-2 c =
     let e = p .before .before .before in
     let s = e .before .before .before .before .before .args in
     let shape = p .before .before .shape-of .ensures in
-    rw (← cleaned-is (s .connectivity) (s .width) (s .height) greatestGrey (now (s .image)) shape (p .plate-tree .ensures) (s .side) (s .limit) refl
+    rw (← cleaned-is (s .connectivity) (s .width) (s .height) (s .greatest) (now (s .image)) shape (p .plate-tree .ensures) (s .side) (s .limit) refl
     (limit-fits e))
-    (answered (s .connectivity) (s .width) (s .height) greatestGrey (now (s .image)) shape (p .plate-tree .ensures) (t .cut-values .ensures)
+    (answered (s .connectivity) (s .width) (s .height) (s .greatest) (now (s .image)) shape (p .plate-tree .ensures) (t .cut-values .ensures)
     (e .before .clean-refusal .ensures) (e .if1 .left) (d .deliver .ensures))
 
 pub clean-spec : {M : Type 1} → statement M

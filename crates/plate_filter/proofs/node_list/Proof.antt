@@ -1,10 +1,8 @@
 -- `plate_filter::node_list` meets its contract.
-use native.Mathlib.Omega.{arith}
 use borrow.Author.Needs.{needs}
 use denote.Ref.{now}
 use Rattle.plate_filter.proofs.node_list.Statement.{statement}
 use Rattle.plate_filter.proofs.node_list.Tie as tie
-use Rattle.plate_tree.proofs.Building.{bytes-fit}
 use Rattle.plate_filter.specs.Operations.{Columns, columns}
 use Rattle.plate_filter.proofs.NodeLists.{listed-done, listed-lent, listed-refused}
 
@@ -16,9 +14,7 @@ shortest-requires : tie.Need-shortest-requires
 shortest-requires c κs = search needs
 
 start-list-requires : tie.Need-start-list-requires
-start-list-requires c κs =
-    let k = c .before .before .before .before .before .before .before in
-    bytes-fit (now (k .before .args .image)) (λ p. omega (arith, k .shared-slice-known .given p))
+start-list-requires c κs = search needs
 
 same-length : tie.Need-same-length
 same-length c = search needs

@@ -15,11 +15,16 @@ abbrev μ-loop : tie.MeasureT-loop
 loop-holds : tie.Need-loop-holds Inv-loop μ-loop
 loop-holds c = loading-first
 
-shared-slice-read-side-grey : tie.Need-shared-slice-read-side-grey Inv-loop μ-loop
-shared-slice-read-side-grey c = omega arith
+mul-grey : tie.Need-mul-grey Inv-loop μ-loop
+mul-grey c = omega arith
+
+shared-slice-read-grey : tie.Need-shared-slice-read-grey Inv-loop μ-loop
+shared-slice-read-grey c = omega arith
 
 cast-side-grey : tie.Need-cast-side-grey Inv-loop μ-loop
-cast-side-grey c = omega (arith, c .shared-slice-known2 .given (c .before .before .loop .p))
+cast-side-grey c =
+    let l = c .before .before in
+    omega (arith, l .before .before .before .pre .greys (l .loop .p) (omega arith), l .before .before .before .pre .small)
 
 side-grey-requires : tie.Need-side-grey-requires Inv-loop μ-loop
 side-grey-requires c κs =
@@ -58,7 +63,8 @@ load-spec =
     Inv-loop
     μ-loop
     loop-holds
-    shared-slice-read-side-grey
+    mul-grey
+    shared-slice-read-grey
     cast-side-grey
     side-grey-requires
     put-requires

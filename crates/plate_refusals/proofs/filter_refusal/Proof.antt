@@ -8,7 +8,7 @@ plate-refusal-requires : tie.Need-plate-refusal-requires
 plate-refusal-requires c κs = search needs
 
 returns : tie.Need-returns
-returns c = filter-plate _ _ _ _ _ _ _ (c .before .plate-refusal .ensures) (c .if1 .taken)
+returns c = filter-plate _ _ _ _ _ _ _ _ (c .before .plate-refusal .ensures) (c .if1 .taken)
 
 cut-refusal-requires : tie.Need-cut-refusal-requires
 cut-refusal-requires c κs = search needs
@@ -16,7 +16,7 @@ cut-refusal-requires c κs = search needs
 returns-2 : tie.Need-returns-2
 returns-2 c =
     let e = c .before .before in
-    filter-output _ _ _ _ _ _ _ (e .before .plate-refusal .ensures) (e .if1 .left) (c .before .cut-refusal .ensures) (c .if2 .taken)
+    filter-output _ _ _ _ _ _ _ _ (e .before .plate-refusal .ensures) (e .if1 .left) (c .before .cut-refusal .ensures) (c .if2 .taken)
 
 work-refusal-requires : tie.Need-work-refusal-requires
 work-refusal-requires c κs = search needs
@@ -25,7 +25,7 @@ returns-3 : tie.Need-returns-3
 returns-3 c =
     let d = c .before in
     let e = d .before .before in
-    filter-space _ _ _ _ _ _ _ (e .before .plate-refusal .ensures) (e .if1 .left) (d .before .cut-refusal .ensures) (d .if2 .left)
+    filter-space _ _ _ _ _ _ _ _ (e .before .plate-refusal .ensures) (e .if1 .left) (d .before .cut-refusal .ensures) (d .if2 .left)
     (c .work-refusal .ensures)
 
 pub filter-refusal-spec : {M : Type 1} → statement M

@@ -9,7 +9,7 @@ use denote.Ref.{now}
 use lib.ListN.{length}
 use Rattle.plate_refusals.proofs.plate_refusal.Statement.{statement}
 use Rattle.plate_refusals.proofs.plate_refusal.Tie as tie
-use Rattle.meaning.specs.Plate.{connectivityFits, gridFits}
+use Rattle.meaning.specs.Plate.{connectivityFits, greatestFits, gridFits}
 use Rattle.theory_connectivity.proofs.Sizes.{grid-sizes}
 
 connectivity-fits-requires : tie.Need-connectivity-fits-requires
@@ -35,21 +35,69 @@ returns-2 c = rw (
 grid : (c : tie.Else2) → let s = c .before .before .before .before .before .args in gridFits (s .width) (s .height) ≡ true
 grid c = sym (c .before .grid-fits .ensures) ∙ not-false (c .before .grid-fits .result) (c .if2 .left)
 
-mul-if3 : tie.Need-mul-if3
-mul-if3 c = let s = c .before .before .before .before .before .args in omega (arith, grid-sizes (s .width) (s .height) (grid c) .few-pixels)
-
-cast-if3 : tie.Need-cast-if3
-cast-if3 c = let s = c .before .before .before .before .before .args in omega (arith, grid-sizes (s .width) (s .height) (grid c) .few-pixels)
+greatest-fits-requires : tie.Need-greatest-fits-requires
+greatest-fits-requires c κs = search needs
 
 returns-3 : tie.Need-returns-3
-returns-3 c =
-    let s = c .before .before .before .before .before .before .args in
-    rw (kind (c .before .before .before), grid (c .before), ne-eqb (length (now (s .image))) (s .width * s .height) (c .if3 .taken))
+returns-3 c = rw (
+  kind (c .before .before .before .before),
+  grid (c .before .before),
+  sym (c .before .greatest-fits .ensures) ∙ not-true (c .before .greatest-fits .result) (c .if3 .taken),
+)
+
+-- the greatest grey fits
+range : (c : tie.Else3) → greatestFits (c .before .before .before .before .before .before .before .args .greatest) ≡ true
+range c = sym (c .before .greatest-fits .ensures) ∙ not-false (c .before .greatest-fits .result) (c .if3 .left)
+
+mul-if4 : tie.Need-mul-if4
+mul-if4 c =
+    let s = c .before .before .before .before .before .before .before .args in
+    omega (arith, grid-sizes (s .width) (s .height) (grid (c .before .before)) .few-pixels)
+
+cast-if4 : tie.Need-cast-if4
+cast-if4 c =
+    let s = c .before .before .before .before .before .before .before .args in
+    omega (arith, grid-sizes (s .width) (s .height) (grid (c .before .before)) .few-pixels)
 
 returns-4 : tie.Need-returns-4
 returns-4 c =
-    let s = c .before .before .before .before .before .before .args in
-    rw (kind (c .before .before .before), grid (c .before), eq-eqb (length (now (s .image))) (s .width * s .height) (c .if3 .left))
+    let e = c .before in
+    let s = e .before .before .before .before .before .before .before .args in
+    rw (
+      kind (e .before .before .before .before),
+      grid (e .before .before),
+      range e,
+      ne-eqb (length (now (s .image))) (s .width * s .height) (c .if4 .taken),
+    )
+
+any-above-requires : tie.Need-any-above-requires
+any-above-requires c κs = search needs
+
+returns-5 : tie.Need-returns-5
+returns-5 c =
+    let e = c .before .before in
+    let d = e .before in
+    let s = d .before .before .before .before .before .before .before .args in
+    rw (
+      kind (d .before .before .before .before),
+      grid (d .before .before),
+      range d,
+      eq-eqb (length (now (s .image))) (s .width * s .height) (e .if4 .left),
+      sym (c .before .any-above .ensures) ∙ c .if5 .taken,
+    )
+
+returns-6 : tie.Need-returns-6
+returns-6 c =
+    let e = c .before .before in
+    let d = e .before in
+    let s = d .before .before .before .before .before .before .before .args in
+    rw (
+      kind (d .before .before .before .before),
+      grid (d .before .before),
+      range d,
+      eq-eqb (length (now (s .image))) (s .width * s .height) (e .if4 .left),
+      sym (c .before .any-above .ensures) ∙ c .if5 .left,
+    )
 
 pub plate-refusal-spec : {M : Type 1} → statement M
 plate-refusal-spec =
@@ -59,7 +107,11 @@ plate-refusal-spec =
     returns
     grid-fits-requires
     returns-2
-    mul-if3
-    cast-if3
+    greatest-fits-requires
     returns-3
-    returns-4)
+    mul-if4
+    cast-if4
+    returns-4
+    any-above-requires
+    returns-5
+    returns-6)

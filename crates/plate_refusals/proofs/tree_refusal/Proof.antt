@@ -8,7 +8,7 @@ use Rattle.plate_refusals.proofs.tree_refusal.Statement.{statement}
 use Rattle.plate_refusals.proofs.tree_refusal.Tie as tie
 use Rattle.plate_refusals.proofs.Refusals.{decided, plate-chain, plate-later, plate-taken}
 
--- the condition after 3, on the pixels
+-- the condition after 28, on the pixels
 abbrev later : tie.Start → ℕ → ℕ
 later c n = workRefusal n (c .args .work) 0
 
@@ -22,7 +22,7 @@ returns : tie.Need-returns
 returns c =
     let t = c .before in
     let s = start t .args in
-    decided (plate-chain (s .connectivity) (s .width) (s .height) (now (s .image))) (t .plate-refusal .ensures) (c .if1 .taken)
+    decided (plate-chain (s .connectivity) (s .width) (s .height) (s .greatest) (now (s .image))) (t .plate-refusal .ensures) (c .if1 .taken)
     (later (start t) (s .width * s .height))
 
 work-refusal-requires : tie.Need-work-refusal-requires
@@ -33,7 +33,7 @@ returns-2 c =
     let e = c .before in
     let t = e .before in
     let s = start t .args in
-    let taken = plate-taken (s .connectivity) (s .width) (s .height) (now (s .image)) (t .plate-refusal .ensures) (e .if1 .left) in
+    let taken = plate-taken (s .connectivity) (s .width) (s .height) (s .greatest) (now (s .image)) (t .plate-refusal .ensures) (e .if1 .left) in
     c .work-refusal .ensures ∙ sym (plate-later taken (later (start t)))
 
 pub tree-refusal-spec : {M : Type 1} → statement M

@@ -27,7 +27,7 @@ plate-tree-requires c κs =
     let e = c .before .before in
     let s = e .before .before .before .before .args in
     started-ready (s .connectivity) (s .width) (s .height) (s .greatest) (now (s .image)) (now (s .work)) (s .places)
-    (e .before .tree-refusal .ensures) (e .if1 .left) (c .before .shape-of .ensures) (e .before .before .before .before .pre)
+    (e .before .tree-refusal .ensures) (e .if1 .left) (c .before .shape-of .ensures)
 
 out-refusal-requires : tie.Need-out-refusal-requires
 out-refusal-requires c κs = search needs
