@@ -8,7 +8,7 @@ use lib.Dec.{eqb}
 use lib.ListN.{length, drop, replicate}
 use borrow.Author.Tests.{ne-eqb}
 use Rattle.meaning.specs.Nodes.{nodesOf}
-use Rattle.meaning.specs.Plate.{greatestGrey, grey, touch}
+use Rattle.meaning.specs.Plate.{grey, touch}
 use Rattle.meaning.specs.Sets.{pick, table}
 use Rattle.work_columns.specs.Columns.{Room}
 use Rattle.work_columns.specs.Layout.{shapeOf}
@@ -33,23 +33,23 @@ standing-entries {k} {w} {f = f} {w₁} {count} t =
 not-zero : (r : ℕ) → eqb (suc r) 0 ≡ false
 not-zero r = ne-eqb (suc r) 0 (λ x. omega (arith, x))
 
-module _ {k w h : ℕ} {f : List ℕ} (list : List Node) {work w₁ : List ℕ} where
+module _ {k w h M : ℕ} {f : List ℕ} (list : List Node) {work w₁ : List ℕ} where
   -- such a list can be filled: a refused list has no entries
-  pub fillable : (r count : ℕ) → Started k w h greatestGrey f (length list) work w₁ r count → Fillable (length f) count w₁ list
+  pub fillable : (r count : ℕ) → Started k w h M f (length list) work w₁ r count → Fillable (length f) count w₁ list
   fillable zero count s = record { room = λ _. s .tree-stands refl .tree .room; few = few-nodes (s .tree-stands refl .tree); places = s .fits }
   fillable (suc r) count s =
       let z : count ≡ 0 = s .counted ∙ rw (not-zero r) in
       record { room = λ l. absurd (omega (arith, z, l)); few = omega (arith, z); places = s .fits }
 
   -- the work space may be zeroed
-  pub endable : (r count : ℕ) → Started k w h greatestGrey f (length list) work w₁ r count → r ≡ 0 → Room w₁ (length f)
+  pub endable : (r count : ℕ) → Started k w h M f (length list) work w₁ r count → r ≡ 0 → Room w₁ (length f)
   endable r count s z = s .tree-stands z .tree .room
 
   -- the list that was filled, and the work space that was zeroed
-  pub entries-listed : (r count : ℕ) {list′ : List Node} {w₂ : List ℕ} → Started k w h greatestGrey f (length list) work w₁ r count
+  pub entries-listed : (r count : ℕ) {list′ : List Node} {w₂ : List ℕ} → Started k w h M f (length list) work w₁ r count
       → list′ ≡ overNodes (table count (standing (length f) w₁)) list
       → w₂ ≡ pick (eqb r 0) (replicate (8 * length f) 0 ++ drop (8 * length f) w₁) w₁
-      → EntriesListed k w h f list list′ work w₂ r count
+      → EntriesListed k w h M f list list′ work w₂ r count
   entries-listed zero count s e c = record {
     answer = list-done s refl c;
     nodes = e ∙ ap (λ (xs : List Node). overNodes xs list) (standing-entries (s .tree-stands refl .tree));

@@ -6,7 +6,7 @@ use Prim.Native.Nat.{ℕ, _≤_, _<_}
 use lib.Dec.{eqb}
 use lib.ListN.{length, drop}
 use Rattle.meaning.specs.Nodes.{areaOf, levelOf, nodesOf, parent}
-use Rattle.meaning.specs.Plate.{greatestGrey, grey, touch}
+use Rattle.meaning.specs.Plate.{grey, touch}
 use Rattle.meaning.specs.Sets.{nth, pick, table}
 use Rattle.work_columns.specs.Columns.{Room, col}
 use Rattle.work_columns.specs.Layout.{ANCHOR, AREA, LEVEL, PARENT}
@@ -34,9 +34,9 @@ nodeEntry n near f xs i = entry (levelOf n near f xs i) (parent n near f xs i) (
 unfoldable pub entries : ℕ → ℕ → List ℕ → List Node
 entries k w f = table (length (nodesOf k w f)) (nodeEntry (length f) (touch k w) (grey f) (nodesOf k w f))
 
--- h: the height; list and work as they were lent, list′ and work′ as they are left
-pub record EntriesListed (k w h : ℕ) (f : List ℕ) (list list′ : List Node) (work work′ : List ℕ) (refusal count : ℕ) : Type 0 where
-  pub answer : ListAnswered k w h greatestGrey f (length list) work work′ refusal count
+-- h: the height, M: the greatest grey; list and work as they were lent, list′ and work′ as they are left
+pub record EntriesListed (k w h M : ℕ) (f : List ℕ) (list list′ : List Node) (work work′ : List ℕ) (refusal count : ℕ) : Type 0 where
+  pub answer : ListAnswered k w h M f (length list) work work′ refusal count
   pub nodes : list′ ≡ pick (eqb refusal 0) (overNodes (entries k w f) list) list
 
 -- ---- filling a list from the columns of n entries in the work space w

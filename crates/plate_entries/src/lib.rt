@@ -5,12 +5,9 @@ ghost use mathlib.Core.List.{_++_};
 ghost use Prim.Native.Nat.{_*_, _<_};
 ghost use lib.Dec.{eqb};
 ghost use lib.ListN.{drop, getD, replicate};
-ghost use Rattle.meaning.specs.Plate.{greatestGrey};
 ghost use Rattle.meaning.specs.Sets.{pick, table};
 ghost use Rattle.work_columns.specs.Columns.{Room};
-ghost use Rattle.plate_tree.specs.Listing.{Started};
 ghost use Rattle.plate_entries.specs.Entries.{EntriesListed, Fillable, none, overNodes, standing};
-use plate_refusals::GREATEST_GREY;
 use plate_tree::NodeList;
 use work_columns::ANCHOR;
 use work_columns::AREA;
@@ -51,29 +48,6 @@ fn fill(list: &mut [Node], work: &[u32], n: usize, count: usize)
     }
 }
 
-// Starts a list with so many places, of a plate whose greys are bytes.
-fn begin_list(
-    image: &[u8],
-    width: u32,
-    height: u32,
-    connectivity: u32,
-    places: usize,
-    work: &mut [u32],
-) -> NodeList
-    ensures { λ r. ⌜ Started connectivity width height greatestGrey (now (image .entry)) places
-        (now (work .entry)) (now (work .exit)) (r .refusal) (r .count) ⌝ }
-{
-    plate_tree::start_list(
-        image,
-        width,
-        height,
-        GREATEST_GREY,
-        connectivity,
-        places,
-        work,
-    )
-}
-
 // Sets the work space to zero where a list was written.
 fn end_list(work: &mut [u32], n: usize, refusal: u32)
     requires { ⌜ (refusal ≡ 0 → Room (now work) n) ⌝ }
@@ -86,19 +60,20 @@ fn end_list(work: &mut [u32], n: usize, refusal: u32)
 
 // The nodes of a plate as entries of one list.
 pub fn node_entries(
-    image: &[u8],
+    image: &[u16],
     width: u32,
     height: u32,
+    greatest: u32,
     connectivity: u32,
     list: &mut [Node],
     work: &mut [u32],
 ) -> NodeList
-    ensures { λ r. ⌜ EntriesListed connectivity width height (now (image .entry)) (now (list .entry)) (now (list .exit))
+    ensures { λ r. ⌜ EntriesListed connectivity width height greatest (now (image .entry)) (now (list .entry)) (now (list .exit))
         (now (work .entry)) (now (work .exit)) (r .refusal) (r .count) ⌝ }
 {
     let n = image.len();
     let places = list.len();
-    let answer = begin_list(image, width, height, connectivity, places, work);
+    let answer = plate_tree::start_list(image, width, height, greatest, connectivity, places, work);
     let count = answer.count as usize;
     fill(list, work, n, count);
     let refusal = answer.refusal;

@@ -40,15 +40,24 @@ fn unwritten() -> [plate_entries::Node; 6] {
 
 // Owns a list, lends it to be filled and to be read, and shows it.
 pub fn list_plate(
-    image: &[u8],
+    image: &[u16],
     width: u32,
     height: u32,
+    greatest: u32,
     connectivity: u32,
     work: &mut [u32],
     at: usize,
 ) {
     let mut list = unwritten();
-    let answer = plate_entries::node_entries(image, width, height, connectivity, &mut list, work);
+    let answer = plate_entries::node_entries(
+        image,
+        width,
+        height,
+        greatest,
+        connectivity,
+        &mut list,
+        work,
+    );
     let one = plate_entries::node_at(&list, at);
     show(answer, list, one);
 }
