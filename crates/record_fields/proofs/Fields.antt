@@ -16,7 +16,7 @@ use Rattle.work_columns.specs.Layout.{AREA, LEVEL, OWN, PARENT}
 use Rattle.work_columns.specs.declared.Shape.{Shape}
 use Rattle.maxtree_columns.specs.Tree.{Tree}
 use Rattle.maxtree_columns.proofs.Tree.{few-nodes, some-nodes}
-use Rattle.record_fields.specs.Fields.{columnFields, nodeColumns}
+use Rattle.record_fields.specs.Fields.{columnFields, formFields, nodeColumns}
 
 -- ---- lists of three, one after the other
 
@@ -75,57 +75,65 @@ module _ {g : Shape} {f w : List ℕ} {count : ℕ} (t : Tree g f w count) where
   nodes-length : length nodes ≡ 3 * (count - 1)
   nodes-length = gather-length (count - 1) (λ (i : ℕ). nodeColumns g w (suc i)) node-three
 
-  column-length : length (columnFields g w count) ≡ 3 * count + 3 + n
+  pub column-length : length (columnFields g w count) ≡ 3 * count + 6 + n
   unfolding columnFields
   column-length =
       omega (arith, some-nodes t, length-append nodes (table n (col OWN n w)), nodes-length, length-table n (col OWN n w))
 
   -- the numbers of fields fit
-  pub column-few : 3 * count + 3 + n ≤ 4 * maxPixels + 3
+  pub column-few : 3 * count + 6 + n ≤ 4 * maxPixels + 6
   column-few = omega (arith, few-nodes t, t .room .small)
 
   -- which numbers are places of fields
-  pub column-inside : (i : ℕ) → i < 3 * count + 3 + n → i < length (columnFields g w count)
+  pub column-inside : (i : ℕ) → i < 3 * count + 6 + n → i < length (columnFields g w count)
   column-inside i l = omega (arith, column-length)
 
-  pub column-end : (i : ℕ) → 3 * count + 3 + n ≤ i → length (columnFields g w count) ≤ i
+  pub column-end : (i : ℕ) → 3 * count + 6 + n ≤ i → length (columnFields g w count) ≤ i
   column-end i l = omega (arith, column-length)
 
-  -- after the first six
-  after-six : (j : ℕ) → nth (columnFields g w count) (6 + j) ≡ nth (nodes ++ table n (col OWN n w)) j
+  -- the first three
+  pub column-form : (i : ℕ) → i < 3 → nth (formFields (g .greatest)) i ≡ nth (columnFields g w count) i
   unfolding columnFields
-  after-six j =
-      getD-append-add (g .width ∷ g .height ∷ g .connectivity ∷ count ∷ col LEVEL n w 0 ∷ col AREA n w 0 ∷ []) (nodes ++ table n (col OWN n w)) j 0
+  column-form i l =
+      let rest : List ℕ = g .width ∷ g .height ∷ g .connectivity ∷ count ∷ col LEVEL n w 0 ∷ col AREA n w 0 ∷ (nodes ++ table n (col OWN n w)) in
+      sym (List·getD-append (formFields (g .greatest)) rest 0 i l)
+
+  -- after the first nine
+  after-nine : (j : ℕ) → nth (columnFields g w count) (9 + j) ≡ nth (nodes ++ table n (col OWN n w)) j
+  unfolding columnFields
+  after-nine j =
+      getD-append-add (0 ∷ 2 ∷ g .greatest ∷ g .width ∷ g .height ∷ g .connectivity ∷ count ∷ col LEVEL n w 0 ∷ col AREA n w 0 ∷ [])
+      (nodes ++ table n (col OWN n w)) j 0
 
   -- field b of node suc a
-  column-node : (a b : ℕ) → suc a < count → b < 3 → nth (columnFields g w count) (6 + (3 * a + b)) ≡ nth (nodeColumns g w (suc a)) b
+  column-node : (a b : ℕ) → suc a < count → b < 3 → nth (columnFields g w count) (9 + (3 * a + b)) ≡ nth (nodeColumns g w (suc a)) b
   column-node a b l h =
-      after-six (3 * a + b)
+      after-nine (3 * a + b)
       ∙ List·getD-append nodes (table n (col OWN n w)) 0 (3 * a + b) (omega (arith, nodes-length))
       ∙ gather-nth (count - 1) (λ (i : ℕ). nodeColumns g w (suc i)) node-three a b (omega arith) h
 
   -- the own node of pixel p
-  column-own : (p : ℕ) → p < n → nth (columnFields g w count) (3 * count + 3 + p) ≡ col OWN n w p
+  column-own : (p : ℕ) → p < n → nth (columnFields g w count) (3 * count + 6 + p) ≡ col OWN n w p
   column-own p l =
-      let e : 3 * count + 3 + p ≡ 6 + (3 * (count - 1) + p) = omega (arith, some-nodes t) in
+      let e : 3 * count + 6 + p ≡ 9 + (3 * (count - 1) + p) = omega (arith, some-nodes t) in
       ap (λ (i : ℕ). nth (columnFields g w count) i) e
-      ∙ after-six (3 * (count - 1) + p)
+      ∙ after-nine (3 * (count - 1) + p)
       ∙ ap (λ (x : ℕ). nth (nodes ++ table n (col OWN n w)) (x + p)) (sym nodes-length)
       ∙ getD-append-add nodes (table n (col OWN n w)) p 0
       ∙ getD-table n (col OWN n w) p 0 l
 
   -- the same by the place of the field
-  pub column-node-at : (i : ℕ) → 6 ≤ i → i < 3 * count + 3
-      → nth (nodeColumns g w ((i - 6) / 3 + 1)) ((i - 6) % 3) ≡ nth (columnFields g w count) i
+  pub column-node-at : (i : ℕ) → 9 ≤ i → i < 3 * count + 6
+      → nth (nodeColumns g w ((i - 9) / 3 + 1)) ((i - 9) % 3) ≡ nth (columnFields g w count) i
   column-node-at i low high =
-      let d : (i - 6) / 3 * 3 + (i - 6) % 3 ≡ i - 6 = div-add-mod' (i - 6) 3 in
-      let m : (i - 6) % 3 < 3 = omega arith in
-      let e : 6 + (3 * ((i - 6) / 3) + (i - 6) % 3) ≡ i = omega arith in
+      let d : (i - 9) / 3 * 3 + (i - 9) % 3 ≡ i - 9 = div-add-mod' (i - 9) 3 in
+      let m : (i - 9) % 3 < 3 = omega arith in
+      let e : 9 + (3 * ((i - 9) / 3) + (i - 9) % 3) ≡ i = omega arith in
       rw add-one
-      (sym (column-node ((i - 6) / 3) ((i - 6) % 3) (omega arith) m) ∙ ap (λ (x : ℕ). nth (columnFields g w count) x) e)
+      (sym (column-node ((i - 9) / 3) ((i - 9) % 3) (omega arith) m) ∙ ap (λ (x : ℕ). nth (columnFields g w count) x) e)
 
-  pub column-own-at : (i : ℕ) → 3 * count + 3 ≤ i → i < 3 * count + 3 + n
-      → col OWN n w (i - (3 * count + 3)) ≡ nth (columnFields g w count) i
+  pub column-own-at : (i : ℕ) → 3 * count + 6 ≤ i → i < 3 * count + 6 + n
+      → col OWN n w (i - (3 * count + 6)) ≡ nth (columnFields g w count) i
   column-own-at i low high =
-      let e : 3 * count + 3 + (i - (3 * count + 3)) ≡ i = omega arith in
-      sym (column-own (i - (3 * count + 3)) (omega arith)) ∙ ap (λ (x : ℕ). nth (columnFields g w count) x) e
+      let e : 3 * count + 6 + (i - (3 * count + 6)) ≡ i = omega arith in
+      sym (column-own (i - (3 * count + 6)) (omega arith)) ∙ ap (λ (x : ℕ). nth (columnFields g w count) x) e

@@ -1,12 +1,13 @@
 -- The columns of a plate's tree spell the fields of the plate's record.
 use mathlib.Core.Path.{_≡_, sym, ap, _∙_}
+use mathlib.Core.Bool.{Bool, true, false}
 use mathlib.Core.List.{List, _∷_, _++_}
 use Prim.Native.Nat.{ℕ, suc, _-_, _<_}
 use native.Mathlib.Omega.{arith}
-use lib.ListN.{length}
+use lib.ListN.{drop, length}
 use Rattle.meaning.specs.Nodes.{own}
 use Rattle.meaning.specs.Plate.{grey}
-use Rattle.meaning.specs.Record.{encode, fields, nodeFields, recordOf, treeFields}
+use Rattle.meaning.specs.Record.{encode, fields, nodeFields, oldRecordOf, recordIn, recordOf, treeFields}
 use Rattle.meaning.specs.Sets.{gather, table}
 use Rattle.theory_lists.proofs.Lists.{table-same}
 use Rattle.work_columns.specs.Columns.{col}
@@ -14,7 +15,7 @@ use Rattle.work_columns.specs.Layout.{AREA, LEVEL, OWN, PARENT, touchIn}
 use Rattle.work_columns.specs.declared.Shape.{Shape}
 use Rattle.maxtree_columns.specs.Tree.{Tree, nodesIn}
 use Rattle.maxtree_columns.proofs.Tree.{parent-earlier, some-nodes}
-use Rattle.record_fields.specs.Fields.{columnFields, nodeColumns}
+use Rattle.record_fields.specs.Fields.{columnFields, firstField, nodeColumns}
 use Rattle.record_fields.proofs.Fields.{gather-same}
 
 module _ {g : Shape} {f w : List ℕ} {count : ℕ} (t : Tree g f w count) where
@@ -49,8 +50,20 @@ module _ {g : Shape} {f w : List ℕ} {count : ℕ} (t : Tree g f w count) where
       table-same n (own n (touchIn g) (grey f) xs) (col OWN n w) (λ p l. sym (t .own-is p l)) in
       cc
 
-  pub tree-record : recordOf (g .connectivity) (g .width) (g .height) f ≡ encode (columnFields g w count)
-  unfolding recordOf fields columnFields
-  tree-record =
-      ap (λ (m : ℕ). encode (g .width ∷ g .height ∷ g .connectivity ∷ treeFields m (touchIn g) (grey f) xs)) (t .pixels)
-      ∙ ap (λ (l : List ℕ). encode (g .width ∷ g .height ∷ g .connectivity ∷ l)) tree-columns
+  -- the fields of the old form
+  old-columns : fields (g .connectivity) (g .width) (g .height) f ≡ drop 3 (columnFields g w count)
+  unfolding fields columnFields
+  old-columns =
+      ap (λ (m : ℕ). g .width ∷ g .height ∷ g .connectivity ∷ treeFields m (touchIn g) (grey f) xs) (t .pixels)
+      ∙ ap (λ (l : List ℕ). g .width ∷ g .height ∷ g .connectivity ∷ l) tree-columns
+
+  pub tree-record : recordOf (g .connectivity) (g .width) (g .height) (g .greatest) f ≡ encode (columnFields g w count)
+  unfolding recordOf columnFields
+  tree-record = ap (λ (l : List ℕ). encode (0 ∷ 2 ∷ g .greatest ∷ l)) old-columns
+
+  -- in either form
+  pub tree-record-in : (new : Bool)
+      → recordIn new (g .connectivity) (g .width) (g .height) (g .greatest) f ≡ encode (drop (firstField new) (columnFields g w count))
+  unfolding oldRecordOf
+  tree-record-in true = tree-record
+  tree-record-in false = ap encode old-columns

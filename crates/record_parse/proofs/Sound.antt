@@ -1,18 +1,19 @@
 -- What parsing accepts is a plate, and the work space has room for it.
-use mathlib.Core.Path.{_≡_, refl, ap}
+use mathlib.Core.Path.{_≡_, refl, sym, ap}
 use mathlib.Core.Bool.{Bool, true, false, not}
 use mathlib.Core.List.{List, [], _∷_, _++_}
 use Prim.Native.Nat.{ℕ, zero, suc, _+_, _-_, _*_, _≤_}
 use native.Mathlib.Omega.{arith}
-use borrow.Author.Tests.{ltb-false, le-leb, not-false}
-use lib.Dec.{ltb}
+use borrow.Author.Tests.{eqb-false, ltb-false, le-leb, not-false}
+use lib.Dec.{eqb, ltb}
 use lib.ListN.{length}
-use Rattle.meaning.specs.Plate.{Plate, connectivityFits, greatestFits, gridFits, maxPixels, maxExtent}
+use Rattle.meaning.specs.Plate.{Plate, byteGreatest, connectivityFits, greatestFits, gridFits, maxExtent, maxGreatest, maxPixels}
 use Rattle.meaning.specs.Sets.{nth, pick}
+use Rattle.theory_lists.proofs.Tests.{passes}
 use Rattle.record_varint.specs.Field.{Reading, accepted, fieldAt, fieldBound, refused}
 use Rattle.record_varint.proofs.Reading.{field-read}
-use Rattle.record_parse.specs.Parse.{Parsed, Values, bad, early, fromConnectivity, fromCount, fromHeight, fromOwn, fromRoot, good, greysFrom}
-use Rattle.record_parse.specs.Parse.{lateOf, levelsFrom, more, onField, onValue, onValues, parse, plate}
+use Rattle.record_parse.specs.Parse.{Parsed, Values, bad, early, fromConnectivity, fromCount, fromGreatest, fromHeight, fromNodes, fromOwn, fromRoot}
+use Rattle.record_parse.specs.Parse.{fromVersion, fromWidth, good, greysFrom, late, lateOf, levelsFrom, more, onField, onValue, onValues, parse, plate}
 
 -- ---- what went on was not refused
 
@@ -30,32 +31,6 @@ on-value (refused number) go vs q e = let z : _≡_ {A = ℕ} 0 1 = cc in absurd
 on-more : (v : ℕ) (rest : Values) (vs : List ℕ) (q : ℕ) → more v rest ≡ good vs q → (ws : List ℕ) × ((rest ≡ good ws q) × (vs ≡ v ∷ ws))
 on-more v (good ws next) vs q e = (ws, (cc, cc))
 on-more v (bad number) vs q e = let z : _≡_ {A = ℕ} 0 1 = cc in absurd (omega arith)
-
--- refusals are no plates
-abbrev Refusing : (ℕ → Parsed) → Type 0
-Refusing refusal = (number k w h : ℕ) (f : List ℕ) → refusal number ≡ plate k w h f → ⊥
-
-early-refuses : Refusing early
-early-refuses number k w h f e = let z : _≡_ {A = ℕ} 0 1 = cc in omega arith
-
-late-refuses : (pixels : ℕ) → Refusing (lateOf pixels)
-late-refuses pixels number k w h f e = let z : _≡_ {A = ℕ} 0 1 = cc in omega arith
-
-module _ (k w h : ℕ) (f : List ℕ) where
-  on-field : (r : Reading) (refusal : ℕ → Parsed) (go : ℕ → ℕ → Parsed) → Refusing refusal → onField r refusal go ≡ plate k w h f
-      → FieldAccepted r go (plate k w h f)
-  on-field (accepted v next) refusal go no-plate e = record { v = v; next = next; read = refl; rest = e }
-  on-field (refused number) refusal go no-plate e = absurd (no-plate number k w h f e)
-
-  on-values : (vs : Values) (refusal : ℕ → Parsed) (go : List ℕ → ℕ → Parsed) → Refusing refusal → onValues vs refusal go ≡ plate k w h f
-      → (ws : List ℕ) × ((next : ℕ) × ((vs ≡ good ws next) × (go ws next ≡ plate k w h f)))
-  on-values (good ws next) refusal go no-plate e = (ws, (next, (refl, e)))
-  on-values (bad number) refusal go no-plate e = absurd (no-plate number k w h f e)
-
-  on-test : (b : Bool) (refusal : ℕ → Parsed) (number : ℕ) (p : Parsed) → Refusing refusal → pick b (refusal number) p ≡ plate k w h f
-      → (b ≡ false) × (p ≡ plate k w h f)
-  on-test true refusal number p no-plate e = absurd (no-plate number k w h f e)
-  on-test false refusal number p no-plate e = (refl, e)
 
 -- ---- levels and greys, which are at most M
 
@@ -101,74 +76,117 @@ module _ {M : ℕ} (s : List ℕ) (pixels : ℕ) where
 
 -- ---- the whole record
 
--- parsing gives the plate f of the sizes and the connectivity that were read: k′, w′, h′
-record PlateRead (M k′ w′ h′ k w h : ℕ) (f : List ℕ) : Type 0 where
-  kind : k′ ≡ k
-  width : w′ ≡ w
-  height : h′ ≡ h
-  greys : AllGreys M f
-  long : length f ≡ w′ * h′
+-- what parsing accepts: an accepted plate, whose greatest grey is that of a byte in the old form, and the work space has room for it
+pub record PlateParsed (new : Bool) (k w h M : ℕ) (f : List ℕ) (work : ℕ) : Type 0 where
+  pub accepted : Plate k w h M f
+  pub old : new ≡ false → M ≡ byteGreatest
+  pub room : 8 * (w * h) ≤ work
 
-spelt-plate : {M k′ w′ h′ k w h : ℕ} {f : List ℕ} → PlateRead M k′ w′ h′ k w h f → (work : ℕ) → greatestFits M ≡ true → connectivityFits k′ ≡ true
-    → gridFits w′ h′ ≡ true → 8 * (w′ * h′) ≤ work → Plate k w h M f × (8 * (w * h) ≤ work)
-spelt-plate r work range kind sizes room = (
-  record {
-    kind = rw (r .kind) at kind;
-    sizes = rw (r .width, r .height) at sizes;
-    range = range;
-    long = rw (r .width, r .height) at (r .long);
-    greys = λ p l. greys-nth p (r .greys);
-  },
-  rw (r .width, r .height) at room,
-)
+-- the new form is not the old one
+pub not-old : {M : ℕ} → true ≡ false → M ≡ byteGreatest
+not-old e = absurd (passes (sym e))
 
-module _ (M : ℕ) (s : List ℕ) (k w h : ℕ) (f : List ℕ) where
-  own-plate : (k′ w′ h′ : ℕ) (levels : List ℕ) (at : ℕ) → AllGreys M levels → fromOwn s k′ w′ h′ levels at ≡ plate k w h f
-      → PlateRead M k′ w′ h′ k w h f
-  own-plate k′ w′ h′ levels at g e =
-      let vs = on-values k w h f (greysFrom s (w′ * h′) levels (w′ * h′) at) (lateOf (w′ * h′)) _ (late-refuses (w′ * h′)) e in
-      let end =
-      on-test k w h f (ltb (vs .1 .0) (length s)) (lateOf (w′ * h′)) 23 (plate k′ w′ h′ (vs .0)) (late-refuses (w′ * h′)) (vs .1 .1 .1) in
-      let a = owns-greys s (w′ * h′) levels (w′ * h′) at (vs .0) (vs .1 .0) g (vs .1 .1 .0) in
-      let is : vs .0 ≡ f = cc (end .1) in
-      let b : AllGreys M f × (length f ≡ w′ * h′) = rw is at a in
-      record { kind = cc (end .1); width = cc (end .1); height = cc (end .1); greys = b .0; long = b .1 }
+-- what holds of an answer: a plate is so
+abbrev Sound : ℕ → Parsed → Type 0
+Sound work (early number) = Unit {0}
+Sound work (late number pixels) = Unit {0}
+Sound work (plate new k w h M f) = PlateParsed new k w h M f work
 
-  root-plate : (k′ w′ h′ count at : ℕ) → fromRoot M s k′ w′ h′ count at ≡ plate k w h f → PlateRead M k′ w′ h′ k w h f
-  root-plate k′ w′ h′ count at e =
-      let root = on-field k w h f (fieldAt s at 0 M) (lateOf (w′ * h′)) _ (late-refuses (w′ * h′)) e in
-      let area = on-field k w h f (fieldAt s (root .next) 1 (w′ * h′)) (lateOf (w′ * h′)) _ (late-refuses (w′ * h′)) (root .rest) in
-      let nodes =
-      on-values k w h f (levelsFrom M s (w′ * h′) (count - 1) (root .v ∷ []) (area .next)) (lateOf (w′ * h′)) (fromOwn s k′ w′ h′)
-      (late-refuses (w′ * h′)) (area .rest) in
-      let low = field-read s at 0 M (root .v) (root .next) (root .read) .high in
-      own-plate k′ w′ h′ (nodes .0) (nodes .1 .0)
-      (levels-greys s (w′ * h′) (count - 1) (root .v ∷ []) (area .next) (nodes .0) (nodes .1 .0) (one low none) (nodes .1 .1 .0)) (nodes .1 .1 .1)
+module _ (work : ℕ) where
+  on-field : (r : Reading) (refusal : ℕ → Parsed) (go : ℕ → ℕ → Parsed) → ((number : ℕ) → Sound work (refusal number))
+      → ((v next : ℕ) → r ≡ accepted v next → Sound work (go v next)) → Sound work (onField r refusal go)
+  on-field (accepted v next) refusal go a b = b v next refl
+  on-field (refused number) refusal go a b = a number
 
-  pub parse-plate : greatestFits M ≡ true → (work : ℕ) → parse M s work ≡ plate k w h f → Plate k w h M f × (8 * (w * h) ≤ work)
-  unfolding parse gridFits
-  parse-plate range work e =
-      let width = on-field k w h f (fieldAt s 0 1 maxExtent) early (fromHeight M s work) early-refuses e in
-      let w′ = width .v in
-      let height = on-field k w h f (fieldAt s (width .next) 1 maxExtent) early _ early-refuses (width .rest) in
-      let h′ = height .v in
-      let grid = on-test k w h f (ltb maxPixels (w′ * h′)) early 22 (fromConnectivity M s work w′ h′ (height .next)) early-refuses (height .rest) in
-      let kind = on-field k w h f (fieldAt s (height .next) 0 (fieldBound - 1)) early _ early-refuses (grid .1) in
-      let k′ = kind .v in
-      let fit = on-test k w h f (not (connectivityFits k′)) early 22 (fromCount M s work k′ w′ h′ (kind .next)) early-refuses (kind .rest) in
-      let count =
-      on-field k w h f (fieldAt s (kind .next) 1 (w′ * h′)) early
-      (λ count next. pick (ltb work (8 * (w′ * h′))) (early 6) (fromRoot M s k′ w′ h′ count next)) early-refuses (fit .1) in
-      let room = on-test k w h f (ltb work (8 * (w′ * h′))) early 6 (fromRoot M s k′ w′ h′ (count .v) (count .next)) early-refuses (count .rest) in
-      let a = field-read s 0 1 maxExtent w′ (width .next) (width .read) in
-      let b = field-read s (width .next) 1 maxExtent h′ (height .next) (height .read) in
-      let r = root-plate k′ w′ h′ (count .v) (count .next) (room .1) in
-      let sizes : gridFits w′ h′ ≡ true =
-      rw (
-        le-leb 1 w′ (a .low),
-        le-leb w′ maxExtent (a .high),
-        le-leb 1 h′ (b .low),
-        le-leb h′ maxExtent (b .high),
-        le-leb (w′ * h′) maxPixels (ltb-false maxPixels (w′ * h′) (grid .0)),
-      ) in
-      spelt-plate r work range (not-false (connectivityFits k′) (fit .0)) sizes (ltb-false work (8 * (w′ * h′)) (room .0))
+  on-values : (vs : Values) (refusal : ℕ → Parsed) (go : List ℕ → ℕ → Parsed) → ((number : ℕ) → Sound work (refusal number))
+      → ((ws : List ℕ) (next : ℕ) → vs ≡ good ws next → Sound work (go ws next)) → Sound work (onValues vs refusal go)
+  on-values (good ws next) refusal go a b = b ws next refl
+  on-values (bad number) refusal go a b = a number
+
+  on-test : (b : Bool) (p q : Parsed) → (b ≡ true → Sound work p) → (b ≡ false → Sound work q) → Sound work (pick b p q)
+  on-test true p q x y = x refl
+  on-test false p q x y = y refl
+
+-- greys up to M are those of an accepted plate
+abbrev Accepting : (new : Bool) (k w h M work : ℕ) → Type 0
+Accepting new k w h M work = (f : List ℕ) → AllGreys M f → length f ≡ w * h → PlateParsed new k w h M f work
+
+module _ (new : Bool) (M : ℕ) (s : List ℕ) (work : ℕ) where
+  own-sound : (k w h : ℕ) (levels : List ℕ) (at : ℕ) → Accepting new k w h M work → AllGreys M levels → Sound work (fromOwn new M s k w h levels at)
+  own-sound k w h levels at fit g =
+      let end : List ℕ → ℕ → Parsed = λ f next. pick (ltb next (length s)) (late 23 (w * h)) (plate new k w h M f) in
+      on-values work (greysFrom s (w * h) levels (w * h) at) (lateOf (w * h)) end (λ number. tt) λ f next e.
+      on-test work (ltb next (length s)) (late 23 (w * h)) (plate new k w h M f) (λ left. tt) λ done.
+      let a = owns-greys s (w * h) levels (w * h) at f next g e in
+      fit f (a .0) (a .1)
+
+  root-sound : (k w h count at : ℕ) → Accepting new k w h M work → Sound work (fromRoot new M s k w h count at)
+  root-sound k w h count at fit =
+      let nodes : ℕ → ℕ → ℕ → Parsed = λ level area at₂. fromNodes new M s k w h count level at₂ in
+      let sized : ℕ → ℕ → Parsed = λ level at₁. onField (fieldAt s at₁ 1 (w * h)) (lateOf (w * h)) (nodes level) in
+      on-field work (fieldAt s at 0 M) (lateOf (w * h)) sized (λ number. tt) λ level at₁ e₁.
+      on-field work (fieldAt s at₁ 1 (w * h)) (lateOf (w * h)) (nodes level) (λ number. tt) λ area at₂ e₂.
+      on-values work (levelsFrom M s (w * h) (count - 1) (level ∷ []) at₂) (lateOf (w * h)) (fromOwn new M s k w h) (λ number. tt) λ levels next e₃.
+      let low = field-read s at 0 M level at₁ e₁ .high in
+      own-sound k w h levels next fit (levels-greys s (w * h) (count - 1) (level ∷ []) at₂ levels next (one low none) e₃)
+
+  module _ (range : greatestFits M ≡ true) (old : new ≡ false → M ≡ byteGreatest) where
+    count-sound : (k w h at : ℕ) → connectivityFits k ≡ true → gridFits w h ≡ true → Sound work (fromCount new M s work k w h at)
+    count-sound k w h at kind sizes =
+        let root : ℕ → ℕ → Parsed = λ count next. pick (ltb work (8 * (w * h))) (early 6) (fromRoot new M s k w h count next) in
+        on-field work (fieldAt s at 1 (w * h)) early root (λ number. tt) λ count next e.
+        on-test work (ltb work (8 * (w * h))) (early 6) (fromRoot new M s k w h count next) (λ short. tt) λ room.
+        root-sound k w h count next λ f greys long.
+        record {
+          accepted = record { kind = kind; sizes = sizes; range = range; long = long; greys = λ p l. greys-nth p greys };
+          old = old;
+          room = ltb-false work (8 * (w * h)) room;
+        }
+
+    connectivity-sound : (w h at : ℕ) → gridFits w h ≡ true → Sound work (fromConnectivity new M s work w h at)
+    connectivity-sound w h at sizes =
+        let rest : ℕ → ℕ → Parsed = λ k next. pick (not (connectivityFits k)) (early 22) (fromCount new M s work k w h next) in
+        on-field work (fieldAt s at 0 (fieldBound - 1)) early rest (λ number. tt) λ k next e.
+        on-test work (not (connectivityFits k)) (early 22) (fromCount new M s work k w h next) (λ none. tt) λ kind.
+        count-sound k w h next (not-false (connectivityFits k) kind) sizes
+
+    height-sound : (w at : ℕ) → 1 ≤ w → w ≤ maxExtent → Sound work (fromHeight new M s work w at)
+    unfolding fromHeight gridFits
+    height-sound w at least most =
+        let rest : ℕ → ℕ → Parsed = λ h next. pick (ltb maxPixels (w * h)) (early 22) (fromConnectivity new M s work w h next) in
+        on-field work (fieldAt s at 1 maxExtent) early rest (λ number. tt) λ h next e.
+        on-test work (ltb maxPixels (w * h)) (early 22) (fromConnectivity new M s work w h next) (λ large. tt) λ grid.
+        let a = field-read s at 1 maxExtent h next e in
+        let sizes : gridFits w h ≡ true =
+        rw (
+          le-leb 1 w least,
+          le-leb w maxExtent most,
+          le-leb 1 h (a .low),
+          le-leb h maxExtent (a .high),
+          le-leb (w * h) maxPixels (ltb-false maxPixels (w * h) grid),
+        ) in
+        connectivity-sound w h next sizes
+
+module _ (s : List ℕ) (work : ℕ) where
+  version-sound : (at : ℕ) → Sound work (fromVersion s work at)
+  unfolding greatestFits
+  version-sound at =
+      on-field work (fieldAt s at 2 2) early (λ version. fromGreatest s work) (λ number. tt) λ version at₁ e₁.
+      on-field work (fieldAt s at₁ 1 maxGreatest) early (fromWidth s work) (λ number. tt) λ M at₂ e₂.
+      on-field work (fieldAt s at₂ 1 maxExtent) early (fromHeight true M s work) (λ number. tt) λ w at₃ e₃.
+      let a = field-read s at₁ 1 maxGreatest M at₂ e₂ in
+      let b = field-read s at₂ 1 maxExtent w at₃ e₃ in
+      let range : greatestFits M ≡ true = rw (le-leb 1 M (a .low), le-leb M maxGreatest (a .high)) in
+      height-sound true M s work range not-old w at₃ (b .low) (b .high)
+
+  parse-sound : Sound work (parse s work)
+  unfolding parse greatestFits
+  parse-sound =
+      let rest : ℕ → ℕ → Parsed = λ first next. pick (eqb first 0) (fromVersion s work next) (fromHeight false byteGreatest s work first next) in
+      on-field work (fieldAt s 0 0 maxExtent) early rest (λ number. tt) λ first next e.
+      on-test work (eqb first 0) (fromVersion s work next) (fromHeight false byteGreatest s work first next) (λ new. version-sound next) λ old.
+      height-sound false byteGreatest s work refl (λ e. refl) first next (omega (arith, eqb-false first 0 old))
+      (field-read s 0 0 maxExtent first next e .high)
+
+  pub parse-plate : (new : Bool) (k w h M : ℕ) (f : List ℕ) → parse s work ≡ plate new k w h M f → PlateParsed new k w h M f work
+  parse-plate new k w h M f e = rw e at parse-sound

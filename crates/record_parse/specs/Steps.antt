@@ -1,6 +1,7 @@
 -- What the answers of this crate's functions say, and what they leave in the work space. n: the pixels; M: the greatest grey;
 -- w, w′: the work space before and after.
 use mathlib.Core.Path.{_≡_}
+use mathlib.Core.Bool.{Bool}
 use mathlib.Core.List.{List}
 use Prim.Native.Nat.{ℕ, suc, _-_, _*_, _≤_, _<_}
 use Rattle.record_parse.specs.declared.Parse.{Parse}
@@ -14,18 +15,22 @@ use Rattle.record_parse.specs.Parse.{Parsed, Values, bad, early, fromRoo
 
 -- ---- the record
 
--- an answer in the specification's terms: the number of the refusal, with the pixels where work had begun; else the plate of that width, height and
--- connectivity whose greys stand in the work space w
+-- an answer in the specification's terms: the number of the refusal, with the pixels where work had begun; else the plate of that width, height,
+-- greatest grey and connectivity whose greys stand in the work space w
 abbrev pub parsedBy : Parse → List ℕ → Parsed
 parsedBy (Early number) w = early number
 parsedBy (Late number pixels) w = late number pixels
-parsedBy (Plate wd ht k) w = plate k wd ht (greysIn (wd * ht) w)
+parsedBy (Plate new wd ht M k) w = plate new k wd ht M (greysIn (wd * ht) w)
 
 -- what it leaves in the work space: all as it was where no work had begun, else changes in the eight columns only
 abbrev pub ParsedWork : Parse → List ℕ → List ℕ → Type 0
 ParsedWork (Early number) w w′ = w′ ≡ w
 ParsedWork (Late number pixels) w w′ = Room w pixels × Frame pixels w w′
-ParsedWork (Plate wd ht k) w w′ = Room w (wd * ht) × Frame (wd * ht) w w′
+ParsedWork (Plate new wd ht M k) w w′ = Room w (wd * ht) × Frame (wd * ht) w w′
+
+-- the answer of reading bytes that spell P
+abbrev pub Spells : Parsed → List ℕ → List ℕ → Parse → Type 0
+Spells P w w′ r = (parsedBy r w′ ≡ P) × ParsedWork r w w′
 
 -- ---- fields
 
@@ -63,10 +68,10 @@ pub record GreysRead (s : List ℕ) (at n : ℕ) (w w′ : List ℕ) (count : �
   pub rest : greysFrom s n (levelsIn n w count) n at ≡ onStep r (good (greysIn n w′))
 
 -- the tree is read: what follows the node count, for a plate of n pixels
-abbrev pub treeParsed : Step → (k w h : ℕ) → List ℕ → Parsed
-treeParsed (Next next) k w h f = plate k w h f
-treeParsed (Refused number) k w h f = late number (w * h)
+abbrev pub treeParsed : Step → (new : Bool) (k w h M : ℕ) → List ℕ → Parsed
+treeParsed (Next next) new k w h M f = plate new k w h M f
+treeParsed (Refused number) new k w h M f = late number (w * h)
 
 pub record TreeRead (M : ℕ) (s : List ℕ) (at n : ℕ) (w w′ : List ℕ) (count : ℕ) (r : Step) : Type 0 where
   pub frame : Frame n w w′
-  pub rest : (k wd ht : ℕ) → wd * ht ≡ n → fromRoot M s k wd ht count at ≡ treeParsed r k wd ht (greysIn n w′)
+  pub rest : (new : Bool) (k wd ht : ℕ) → wd * ht ≡ n → fromRoot new M s k wd ht count at ≡ treeParsed r new k wd ht M (greysIn n w′)

@@ -1,10 +1,10 @@
 // The fields of a record taken one after another, each with its refusal, up to 23. The greys that they spell go into the work space.
-ghost use mathlib.Core.Path.{_≡_};
 ghost use Prim.Native.Nat.{_+_, _*_, _<_, _≤_};
 ghost use lib.ListN.{length};
+ghost use Rattle.meaning.specs.Plate.{maxExtent};
 ghost use Rattle.work_columns.specs.Columns.{Room};
-ghost use Rattle.record_parse.specs.Parse.{parse};
-ghost use Rattle.record_parse.specs.Steps.{parsedBy, ParsedWork, Known, NodeRead, NodesRead, GreysRead, TreeRead};
+ghost use Rattle.record_parse.specs.Parse.{fromHeight, parse};
+ghost use Rattle.record_parse.specs.Steps.{Spells, Known, NodeRead, NodesRead, GreysRead, TreeRead};
 use record_varint::Field;
 use work_columns::GREY;
 use work_columns::LEVEL;
@@ -15,8 +15,14 @@ pub enum Parse {
     Early(u32),
     // Refused after 6: the specification's number, and the pixels.
     Late(u32, usize),
-    // A plate: width, height, connectivity.
-    Plate(u32, u32, u32),
+    // A plate, and whether its record is in the new form.
+    Plate {
+        new: bool,
+        width: u32,
+        height: u32,
+        greatest: u32,
+        connectivity: u32,
+    },
 }
 
 // What reading some fields finds. `onStep` says it in the specification's terms.
@@ -130,42 +136,70 @@ fn read_tree_fields(
     Step::Next(at4)
 }
 
-// Parses a record of greys up to `greatest`, up to refusal 23. The greys of the plate stand in the work space's first column.
-pub fn parse_record(s: &[u8], greatest: u32, work: &mut [u32]) -> Parse
-    ensures { λ r. ⌜ parsedBy r (now (work .exit)) ≡ parse greatest (now (s .entry)) (length (now (work .entry))) ⌝ }
-    ensures { λ r. ⌜ ParsedWork r (now (work .entry)) (now (work .exit)) ⌝ }
+// Reads what follows the width, for a plate of greys up to `greatest`: height, connectivity, node count, and the tree's fields.
+fn parse_plate(s: &[u8], at: usize, new: bool, greatest: u32, width: u32, work: &mut [u32]) -> Parse
+    requires { ⌜ width ≤ maxExtent ⌝ }
+    ensures { λ r. ⌜ Spells (fromHeight new greatest (now (s .entry)) (length (now (work .entry))) width at) (now (work .entry)) (now (work .exit)) r ⌝ }
 {
-    let f1 = record_varint::read_field(s, 0, 1, 32768);
-    let Field::Value(width, at1) = f1 else {
+    let f1 = record_varint::read_field(s, at, 1, 32768);
+    let Field::Value(height, at1) = f1 else {
         return Parse::Early(record_varint::refusal(f1));
-    };
-    let f2 = record_varint::read_field(s, at1, 1, 32768);
-    let Field::Value(height, at2) = f2 else {
-        return Parse::Early(record_varint::refusal(f2));
     };
     let pixels = width * height;
     if 16777216 < pixels {
         return Parse::Early(22);
     }
-    let f3 = record_varint::read_field(s, at2, 0, 4294967295);
-    let Field::Value(connectivity, at3) = f3 else {
-        return Parse::Early(record_varint::refusal(f3));
+    let f2 = record_varint::read_field(s, at1, 0, 4294967295);
+    let Field::Value(connectivity, at2) = f2 else {
+        return Parse::Early(record_varint::refusal(f2));
     };
     if !plate_refusals::connectivity_fits(connectivity) {
         return Parse::Early(22);
     }
-    let f4 = record_varint::read_field(s, at3, 1, pixels);
-    let Field::Value(count, at4) = f4 else {
-        return Parse::Early(record_varint::refusal(f4));
+    let f3 = record_varint::read_field(s, at2, 1, pixels);
+    let Field::Value(count, at3) = f3 else {
+        return Parse::Early(record_varint::refusal(f3));
     };
     let n = pixels as usize;
     let space = plate_refusals::work_refusal(n, work.len());
     if space != 0 {
         return Parse::Early(space);
     }
-    let tree = read_tree_fields(s, at4, work, n, greatest, count as usize);
+    let tree = read_tree_fields(s, at3, work, n, greatest, count as usize);
     if let Step::Refused(number) = tree {
         return Parse::Late(number, n);
     }
-    Parse::Plate(width, height, connectivity)
+    Parse::Plate {
+        new,
+        width,
+        height,
+        greatest,
+        connectivity,
+    }
+}
+
+// Parses a record up to refusal 23. The greys of the plate stand in the work space's first column.
+pub fn parse_record(s: &[u8], work: &mut [u32]) -> Parse
+    ensures { λ r. ⌜ Spells (parse (now (s .entry)) (length (now (work .entry)))) (now (work .entry)) (now (work .exit)) r ⌝ }
+{
+    let f1 = record_varint::read_field(s, 0, 0, 32768);
+    let Field::Value(first, at1) = f1 else {
+        return Parse::Early(record_varint::refusal(f1));
+    };
+    if first != 0 {
+        return parse_plate(s, at1, false, 255, first, work);
+    }
+    let f2 = record_varint::read_field(s, at1, 2, 2);
+    let Field::Value(_, at2) = f2 else {
+        return Parse::Early(record_varint::refusal(f2));
+    };
+    let f3 = record_varint::read_field(s, at2, 1, 65535);
+    let Field::Value(greatest, at3) = f3 else {
+        return Parse::Early(record_varint::refusal(f3));
+    };
+    let f4 = record_varint::read_field(s, at3, 1, 32768);
+    let Field::Value(width, at4) = f4 else {
+        return Parse::Early(record_varint::refusal(f4));
+    };
+    parse_plate(s, at4, true, greatest, width, work)
 }

@@ -2,19 +2,20 @@
 use mathlib.Core.Path.{_≡_, refl, _∙_}
 use mathlib.Core.Bool.{Bool, true, false, not, _&&_}
 use mathlib.Core.List.{List, [], _∷_, _++_}
-use Prim.Native.Nat.{ℕ, zero, suc, _+_, _-_, _*_, _≤_, _<_}
+use Prim.Native.Nat.{ℕ, zero, suc, _+_, _-_, _*_, _<_}
 use native.Mathlib.Omega.{arith}
 use lib.Dec.{eqb, leb, ltb}
 use lib.ListN.{length, drop}
 use borrow.Author.Tests.{eqb-true}
-use Rattle.meaning.specs.Plate.{Plate, connectivityFits, greatestFits, maxPixels, maxExtent}
-use Rattle.meaning.specs.Record.{recordOf, varint}
+use Rattle.meaning.specs.Plate.{byteGreatest, connectivityFits, maxExtent, maxGreatest, maxPixels}
+use Rattle.meaning.specs.Record.{recordIn, varint}
 use Rattle.meaning.specs.Sets.{nth, pick}
 use Rattle.theory_lists.proofs.Tests.{both-true, passes}
 use Rattle.record_varint.specs.Field.{Reading, accepted, continued, fieldAt, fieldBound, fieldOf, refused, starts, value}
-use Rattle.record_parse.specs.Parse.{Parsed, Values, bad, compared, early, fromConnectivity, fromCount, fromHeight, fromNodes, fromOwn, fromRoot}
-use Rattle.record_parse.specs.Parse.{good, greysFrom, late, lateOf, levelsFrom, more, onField, onValue, onValues, parse, plate, readOf, sameBytes}
-use Rattle.record_parse.proofs.Sound.{parse-plate}
+use Rattle.record_parse.specs.Parse.{Parsed, Values, bad, compared, early, fromConnectivity, fromCount, fromGreatest, fromHeight, fromNodes, fromOwn}
+use Rattle.record_parse.specs.Parse.{fromRoot, fromVersion, fromWidth, good, greysFrom, late, lateOf, levelsFrom, more, onField, onValue, onValues, parse}
+use Rattle.record_parse.specs.Parse.{plate, readOf, sameBytes}
+use Rattle.record_parse.proofs.Sound.{PlateParsed, parse-plate}
 
 -- ---- a refusal's number is not 0
 
@@ -29,7 +30,7 @@ NumberedValues (bad number) = 0 < number
 abbrev pub Numbered : Parsed → Type 0
 Numbered (early number) = 0 < number
 Numbered (late number pixels) = 0 < number
-Numbered (plate k w h f) = Unit {0}
+Numbered (plate new k w h M f) = Unit {0}
 
 three-tests : (a b c : Bool) (v next : ℕ) → NumberedField (pick a (refused 20) (pick b (refused 21) (pick c (refused 22) (accepted v next))))
 three-tests true b c v next = omega arith
@@ -69,14 +70,14 @@ on-test : (b : Bool) (p q : Parsed) → Numbered p → Numbered q → Numbered (
 on-test true p q x y = x
 on-test false p q x y = y
 
-module _ (M : ℕ) (s : List ℕ) where
+module _ (s : List ℕ) where
   at-field : (at lo hi : ℕ) → NumberedField (fieldAt s at lo hi)
   at-field at lo hi = field-numbered (drop at s) at lo hi
 
-  levels-numbered : (pixels left : ℕ) (levels : List ℕ) (at : ℕ) → NumberedValues (levelsFrom M s pixels left levels at)
+  levels-numbered : (M pixels left : ℕ) (levels : List ℕ) (at : ℕ) → NumberedValues (levelsFrom M s pixels left levels at)
   unfolding levelsFrom
-  levels-numbered pixels zero levels at = tt
-  levels-numbered pixels (suc left) levels at =
+  levels-numbered M pixels zero levels at = tt
+  levels-numbered M pixels (suc left) levels at =
       let level : ℕ → ℕ = λ (back : ℕ). nth levels (length levels - back) in
       let node : ℕ → ℕ → ℕ → ℕ → Values = λ back rise area at₃. levelsFrom M s pixels left (levels ++ ((level back + rise) ∷ [])) at₃ in
       let sized : ℕ → ℕ → ℕ → Values = λ back rise at₂. onValue (fieldAt s at₂ 1 pixels) (node back rise) in
@@ -84,7 +85,7 @@ module _ (M : ℕ) (s : List ℕ) where
       value-numbered (fieldAt s at 1 (length levels)) raised (at-field at 1 (length levels)) λ back at₁.
       value-numbered (fieldAt s at₁ 1 (M - level back)) (sized back) (at-field at₁ 1 (M - level back)) λ rise at₂.
       value-numbered (fieldAt s at₂ 1 pixels) (node back rise) (at-field at₂ 1 pixels) λ area at₃.
-      levels-numbered pixels left (levels ++ ((level back + rise) ∷ [])) at₃
+      levels-numbered M pixels left (levels ++ ((level back + rise) ∷ [])) at₃
 
   greys-numbered : (pixels : ℕ) (levels : List ℕ) (left at : ℕ) → NumberedValues (greysFrom s pixels levels left at)
   unfolding greysFrom
@@ -94,51 +95,66 @@ module _ (M : ℕ) (s : List ℕ) where
       value-numbered (fieldAt s at 0 (length levels - 1)) rest (at-field at 0 (length levels - 1)) λ own next.
       more-numbered (nth levels own) (greysFrom s pixels levels left next) (greys-numbered pixels levels left next)
 
-  own-numbered : (k w h : ℕ) (levels : List ℕ) (at : ℕ) → Numbered (fromOwn s k w h levels at)
+-- after the form; new: the new one
+module _ (new : Bool) (M : ℕ) (s : List ℕ) where
+  own-numbered : (k w h : ℕ) (levels : List ℕ) (at : ℕ) → Numbered (fromOwn new M s k w h levels at)
   own-numbered k w h levels at =
-      let end : List ℕ → ℕ → Parsed = λ f next. pick (ltb next (length s)) (late 23 (w * h)) (plate k w h f) in
-      on-values (greysFrom s (w * h) levels (w * h) at) (lateOf (w * h)) end (λ number l. l) (greys-numbered (w * h) levels (w * h) at) λ f next.
-      on-test (ltb next (length s)) (late 23 (w * h)) (plate k w h f) (omega arith) tt
+      let end : List ℕ → ℕ → Parsed = λ f next. pick (ltb next (length s)) (late 23 (w * h)) (plate new k w h M f) in
+      on-values (greysFrom s (w * h) levels (w * h) at) (lateOf (w * h)) end (λ number l. l) (greys-numbered s (w * h) levels (w * h) at) λ f next.
+      on-test (ltb next (length s)) (late 23 (w * h)) (plate new k w h M f) (omega arith) tt
 
-  root-numbered : (k w h count at : ℕ) → Numbered (fromRoot M s k w h count at)
+  root-numbered : (k w h count at : ℕ) → Numbered (fromRoot new M s k w h count at)
   root-numbered k w h count at =
-      let nodes : ℕ → ℕ → ℕ → Parsed = λ level area at₂. fromNodes M s k w h count level at₂ in
+      let nodes : ℕ → ℕ → ℕ → Parsed = λ level area at₂. fromNodes new M s k w h count level at₂ in
       let sized : ℕ → ℕ → Parsed = λ level at₁. onField (fieldAt s at₁ 1 (w * h)) (lateOf (w * h)) (nodes level) in
-      on-field (fieldAt s at 0 M) (lateOf (w * h)) sized (λ number l. l) (at-field at 0 M) λ level at₁.
-      on-field (fieldAt s at₁ 1 (w * h)) (lateOf (w * h)) (nodes level) (λ number l. l) (at-field at₁ 1 (w * h)) λ area at₂.
-      on-values (levelsFrom M s (w * h) (count - 1) (level ∷ []) at₂) (lateOf (w * h)) (fromOwn s k w h) (λ number l. l)
-      (levels-numbered (w * h) (count - 1) (level ∷ []) at₂) (own-numbered k w h)
+      on-field (fieldAt s at 0 M) (lateOf (w * h)) sized (λ number l. l) (at-field s at 0 M) λ level at₁.
+      on-field (fieldAt s at₁ 1 (w * h)) (lateOf (w * h)) (nodes level) (λ number l. l) (at-field s at₁ 1 (w * h)) λ area at₂.
+      on-values (levelsFrom M s (w * h) (count - 1) (level ∷ []) at₂) (lateOf (w * h)) (fromOwn new M s k w h) (λ number l. l)
+      (levels-numbered s M (w * h) (count - 1) (level ∷ []) at₂) (own-numbered k w h)
 
-  count-numbered : (work k w h at : ℕ) → Numbered (fromCount M s work k w h at)
+  count-numbered : (work k w h at : ℕ) → Numbered (fromCount new M s work k w h at)
   count-numbered work k w h at =
-      let root : ℕ → ℕ → Parsed = λ count next. pick (ltb work (8 * (w * h))) (early 6) (fromRoot M s k w h count next) in
-      on-field (fieldAt s at 1 (w * h)) early root (λ number l. l) (at-field at 1 (w * h)) λ count next.
-      on-test (ltb work (8 * (w * h))) (early 6) (fromRoot M s k w h count next) (omega arith) (root-numbered k w h count next)
+      let root : ℕ → ℕ → Parsed = λ count next. pick (ltb work (8 * (w * h))) (early 6) (fromRoot new M s k w h count next) in
+      on-field (fieldAt s at 1 (w * h)) early root (λ number l. l) (at-field s at 1 (w * h)) λ count next.
+      on-test (ltb work (8 * (w * h))) (early 6) (fromRoot new M s k w h count next) (omega arith) (root-numbered k w h count next)
 
-  connectivity-numbered : (work w h at : ℕ) → Numbered (fromConnectivity M s work w h at)
+  connectivity-numbered : (work w h at : ℕ) → Numbered (fromConnectivity new M s work w h at)
   connectivity-numbered work w h at =
-      let rest : ℕ → ℕ → Parsed = λ k next. pick (not (connectivityFits k)) (early 22) (fromCount M s work k w h next) in
-      on-field (fieldAt s at 0 (fieldBound - 1)) early rest (λ number l. l) (at-field at 0 (fieldBound - 1)) λ k next.
-      on-test (not (connectivityFits k)) (early 22) (fromCount M s work k w h next) (omega arith) (count-numbered work k w h next)
+      let rest : ℕ → ℕ → Parsed = λ k next. pick (not (connectivityFits k)) (early 22) (fromCount new M s work k w h next) in
+      on-field (fieldAt s at 0 (fieldBound - 1)) early rest (λ number l. l) (at-field s at 0 (fieldBound - 1)) λ k next.
+      on-test (not (connectivityFits k)) (early 22) (fromCount new M s work k w h next) (omega arith) (count-numbered work k w h next)
 
-  height-numbered : (work w at : ℕ) → Numbered (fromHeight M s work w at)
+  height-numbered : (work w at : ℕ) → Numbered (fromHeight new M s work w at)
+  unfolding fromHeight
   height-numbered work w at =
-      let rest : ℕ → ℕ → Parsed = λ h next. pick (ltb maxPixels (w * h)) (early 22) (fromConnectivity M s work w h next) in
-      on-field (fieldAt s at 1 maxExtent) early rest (λ number l. l) (at-field at 1 maxExtent) λ h next.
-      on-test (ltb maxPixels (w * h)) (early 22) (fromConnectivity M s work w h next) (omega arith) (connectivity-numbered work w h next)
+      let rest : ℕ → ℕ → Parsed = λ h next. pick (ltb maxPixels (w * h)) (early 22) (fromConnectivity new M s work w h next) in
+      on-field (fieldAt s at 1 maxExtent) early rest (λ number l. l) (at-field s at 1 maxExtent) λ h next.
+      on-test (ltb maxPixels (w * h)) (early 22) (fromConnectivity new M s work w h next) (omega arith) (connectivity-numbered work w h next)
 
-  parse-numbered : (work : ℕ) → Numbered (parse M s work)
+module _ (s : List ℕ) (work : ℕ) where
+  version-numbered : (at : ℕ) → Numbered (fromVersion s work at)
+  version-numbered at =
+      on-field (fieldAt s at 2 2) early (λ version. fromGreatest s work) (λ number l. l) (at-field s at 2 2) λ version at₁.
+      on-field (fieldAt s at₁ 1 maxGreatest) early (fromWidth s work) (λ number l. l) (at-field s at₁ 1 maxGreatest) λ M at₂.
+      on-field (fieldAt s at₂ 1 maxExtent) early (fromHeight true M s work) (λ number l. l) (at-field s at₂ 1 maxExtent) (height-numbered true M s work)
+
+  parse-numbered : Numbered (parse s work)
   unfolding parse
-  parse-numbered work = on-field (fieldAt s 0 1 maxExtent) early (fromHeight M s work) (λ number l. l) (at-field 0 1 maxExtent) (height-numbered work)
+  parse-numbered =
+      let rest : ℕ → ℕ → Parsed = λ first next. pick (eqb first 0) (fromVersion s work next) (fromHeight false byteGreatest s work first next) in
+      on-field (fieldAt s 0 0 maxExtent) early rest (λ number l. l) (at-field s 0 0 maxExtent) λ first next.
+      on-test (eqb first 0) (fromVersion s work next) (fromHeight false byteGreatest s work first next) (version-numbered next)
+      (height-numbered false byteGreatest s work first next)
 
   compared-numbered : (P : Parsed) → Numbered P → Numbered (compared s P)
   compared-numbered (early number) l = l
   compared-numbered (late number pixels) l = l
-  compared-numbered (plate k w h f) l = on-test (sameBytes s (recordOf k w h f)) (plate k w h f) (late 24 (w * h)) tt (omega arith)
+  compared-numbered (plate new k w h M f) l =
+      on-test (sameBytes s (recordIn new k w h M f)) (plate new k w h M f) (late 24 (w * h)) tt (omega arith)
 
-  pub read-numbered : (work : ℕ) → Numbered (readOf M s work)
+  pub read-numbered : Numbered (readOf s work)
   unfolding readOf
-  read-numbered work = compared-numbered (parse M s work) (parse-numbered work)
+  read-numbered = compared-numbered (parse s work) parse-numbered
 
 -- ---- what is accepted
 
@@ -151,22 +167,23 @@ bytes-are (x ∷ xs) (y ∷ ys) e =
     let both = both-true (eqb x y) (sameBytes xs ys) e in
     rw (eqb-true x y (both .0), bytes-are xs ys (both .1))
 
--- the plate that was compared is the one that is accepted, and the bytes are its record
-taken : (s : List ℕ) (P : Parsed) (k w h : ℕ) (f : List ℕ) → compared s P ≡ plate k w h f → (P ≡ plate k w h f) × (s ≡ recordOf k w h f)
-taken s (early number) k w h f e = let z : _≡_ {A = ℕ} 0 1 = cc in absurd (omega arith)
-taken s (late number pixels) k w h f e = let z : _≡_ {A = ℕ} 0 1 = cc in absurd (omega arith)
-taken s (plate k′ w′ h′ f′) k w h f e = go (sameBytes s (recordOf k′ w′ h′ f′)) refl e
+-- the plate that was compared is the one that is accepted, and the bytes are its record, in their form
+taken : (s : List ℕ) (P : Parsed) (new : Bool) (k w h M : ℕ) (f : List ℕ) → compared s P ≡ plate new k w h M f
+    → (P ≡ plate new k w h M f) × (s ≡ recordIn new k w h M f)
+taken s (early number) new k w h M f e = let z : _≡_ {A = ℕ} 0 1 = cc in absurd (omega arith)
+taken s (late number pixels) new k w h M f e = let z : _≡_ {A = ℕ} 0 1 = cc in absurd (omega arith)
+taken s (plate new′ k′ w′ h′ M′ f′) new k w h M f e = go (sameBytes s (recordIn new′ k′ w′ h′ M′ f′)) refl e
   where
-    go : (b : Bool) → sameBytes s (recordOf k′ w′ h′ f′) ≡ b → pick b (plate k′ w′ h′ f′) (late 24 (w′ * h′)) ≡ plate k w h f
-        → (plate k′ w′ h′ f′ ≡ plate k w h f) × (s ≡ recordOf k w h f)
-    go true q e = let same = bytes-are s (recordOf k′ w′ h′ f′) q in (e, same ∙ cc)
+    go : (b : Bool) → sameBytes s (recordIn new′ k′ w′ h′ M′ f′) ≡ b → pick b (plate new′ k′ w′ h′ M′ f′) (late 24 (w′ * h′)) ≡ plate new k w h M f
+        → (plate new′ k′ w′ h′ M′ f′ ≡ plate new k w h M f) × (s ≡ recordIn new k w h M f)
+    go true q e = let same = bytes-are s (recordIn new′ k′ w′ h′ M′ f′) q in (e, same ∙ cc)
     go false q e = let z : _≡_ {A = ℕ} 0 1 = cc in absurd (omega arith)
 
--- bytes that are read as a plate are that plate's record; the plate is accepted, and its work space was there
-pub read-exact : (M : ℕ) → greatestFits M ≡ true → (s : List ℕ) (work k w h : ℕ) (f : List ℕ) → readOf M s work ≡ plate k w h f
-    → (s ≡ recordOf k w h f) × Plate k w h M f × (8 * (w * h) ≤ work)
+-- bytes that are read as a plate are that plate's record, in their form; the plate is accepted, with the greatest grey of a byte in the old form, and its
+-- work space was there
+pub read-exact : (s : List ℕ) (work : ℕ) (new : Bool) (k w h M : ℕ) (f : List ℕ) → readOf s work ≡ plate new k w h M f
+    → (s ≡ recordIn new k w h M f) × PlateParsed new k w h M f work
 unfolding readOf
-read-exact M range s work k w h f e =
-    let t = taken s (parse M s work) k w h f e in
-    let p = parse-plate M s k w h f range work (t .0) in
-    (t .1, p .0, p .1)
+read-exact s work new k w h M f e =
+    let t = taken s (parse s work) new k w h M f e in
+    (t .1, parse-plate s work new k w h M f (t .0))

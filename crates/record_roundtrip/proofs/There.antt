@@ -1,6 +1,6 @@
--- Reading what writing gives: the fields of a plate's record are in their ranges, and they spell the plate.
+-- Reading what writing gives: the fields of a plate's record are in their ranges, and they spell the plate, in each form.
 use mathlib.Core.Path.{_≡_, refl, sym, ap, _∙_}
-use mathlib.Core.Bool.{Bool, true}
+use mathlib.Core.Bool.{Bool, true, false}
 use mathlib.Core.List.{List, [], _∷_, _++_, map, append-assoc, append-nil}
 use Prim.Native.Nat.{ℕ, zero, suc, _+_, _-_, _*_, _≤_, _<_}
 use native.Mathlib.Nat.{le-refl, le-trans, add-zero, add-suc, suc-add, zero-add}
@@ -10,8 +10,8 @@ use lib.ListN.{length, drop, length-drop}
 use Rattle.meaning.specs.Component.{grown, same}
 use Rattle.meaning.specs.Nodes.{areaOf, holds, levelOf, nodesOf, own, parent, rise}
 use Rattle.meaning.specs.Paths.{Grid}
-use Rattle.meaning.specs.Plate.{Plate, grey, maxGreatest, maxPixels, maxExtent, touch}
-use Rattle.meaning.specs.Record.{encode, fields, nodeFields, recordOf, treeFields, varint}
+use Rattle.meaning.specs.Plate.{Plate, byteGreatest, grey, maxGreatest, maxPixels, maxExtent, touch}
+use Rattle.meaning.specs.Record.{encode, fields, nodeFields, oldRecordOf, recordIn, recordOf, treeFields, varint}
 use Rattle.meaning.specs.Sets.{area, elem, gather, nth, place, span, sum, table}
 use Rattle.theory_lists.proofs.Lists.{distinct-area, gather-cong, getD-table, length-table, table-suc}
 use Rattle.theory_lists.proofs.Sets.{area-le}
@@ -23,7 +23,10 @@ use Rattle.theory_tree.proofs.Nodes.{nodes-distinct, nth-inside, over-holds, ow
 use Rattle.theorems.proofs.Plates.{plate-grid, plate-nodes, plate-sizes, plate-some, table-grey}
 use Rattle.record_varint.specs.Field.{accepted, fieldAt, fieldBound}
 use Rattle.record_varint.proofs.Encode.{encode-read, encode-rest}
-use Rattle.record_parse.specs.Parse.{good, greysFrom, levelsFrom, parse, plate, readOf, sameBytes}
+use Rattle.record_parse.specs.Parse.{compared, fromHeight, good, greysFrom, levelsFrom, parse, plate, readOf, sameBytes}
+use Rattle.record_parse.proofs.Fields.{Took}
+use Rattle.record_parse.proofs.Record.{after-greatest, after-version, after-width, new-form, old-form}
+use Rattle.record_parse.proofs.Sound.{not-old}
 
 -- ---- lists
 
@@ -153,7 +156,8 @@ module _ {k w h M : ℕ} {f : List ℕ} (pl : Plate k w h M f) (s : List ℕ) wh
   levels-there (suc left) i at rest e pos st =
       let tail : List ℕ = gather left (λ (j : ℕ). nodeFields n near (grey f) xs (suc i + j)) ++ rest in
       let one : Node left i at tail = one-node left i at tail pos (omega arith) (rw (nodes-first left i rest) at st) in
-      let others : Through left (table (suc i) level) (one .next) rest = levels-there left (suc i) (one .next) rest (omega arith) (omega arith) (one .stands) in
+      let others : Through left (table (suc i) level) (one .next) rest =
+      levels-there left (suc i) (one .next) rest (omega arith) (omega arith) (one .stands) in
       record { next = others .next; reads = one .reads ∙ others .reads; stands = others .stands }
 
   -- ---- the pixels' own nodes
@@ -189,9 +193,6 @@ module _ {k w h M : ℕ} {f : List ℕ} (pl : Plate k w h M f) (s : List ℕ) wh
 -- ---- the whole record
 
 module _ {k w h M : ℕ} {f : List ℕ} (pl : Plate k w h M f) where
-  abbrev bytes : List ℕ
-  bytes = recordOf k w h f
-
   abbrev count : ℕ
   count = length (nodesOf k w f)
 
@@ -204,67 +205,66 @@ module _ {k w h M : ℕ} {f : List ℕ} (pl : Plate k w h M f) where
   abbrev fields-nodes : List ℕ
   fields-nodes = gather (count - 1) (λ (j : ℕ). nodeFields (length f) (touch k w) (grey f) (nodesOf k w f) (1 + j)) ++ fields-own
 
+  -- the fields after the width
+  abbrev fields-height : List ℕ
+  fields-height = h ∷ k ∷ count ∷ root ∷ w * h ∷ fields-nodes
+
   some-nodes : 0 < count
   some-nodes = some-node (plate-grid pl) (plate-nodes pl) 0 (plate-some pl)
 
-  -- the record's fields, one after the other
-  bytes-stand : EncodedAt bytes 0 (w ∷ h ∷ k ∷ count ∷ root ∷ w * h ∷ fields-nodes)
-  unfolding recordOf fields treeFields table
-  bytes-stand =
+  -- the fields of the old form, one after the other
+  fields-are : fields k w h f ≡ w ∷ fields-height
+  unfolding fields treeFields table
+  fields-are =
       let g : ℕ → List ℕ = nodeFields (length f) (touch k w) (grey f) (nodesOf k w f) in
       let same : gather (count - 1) (λ (i : ℕ). g (suc i)) ≡ gather (count - 1) (λ (j : ℕ). g (1 + j)) =
       gather-cong (count - 1) (λ (i : ℕ). g (suc i)) (λ (j : ℕ). g (1 + j)) (λ j. ap g (omega arith)) in
       let area : areaOf (length f) (touch k w) (grey f) (nodesOf k w f) 0 ≡ w * h = root-area (plate-grid pl) (plate-nodes pl) ∙ pl .long in
-      sym (append-nil bytes)
-      ∙ ap (λ (l : List ℕ). encode (w ∷ h ∷ k ∷ count ∷ root ∷ l) ++ [])
-      (ap (λ (a : ℕ). a ∷ (gather (count - 1) (λ (i : ℕ). g (suc i)) ++ fields-own)) area ∙ ap (λ (l : List ℕ). w * h ∷ (l ++ fields-own)) same)
+      ap (λ (a : ℕ). w ∷ h ∷ k ∷ count ∷ root ∷ a ∷ (gather (count - 1) (λ (i : ℕ). g (suc i)) ++ fields-own)) area
+      ∙ ap (λ (l : List ℕ). w ∷ h ∷ k ∷ count ∷ root ∷ w * h ∷ (l ++ fields-own)) same
 
-  pub parse-there : (work : ℕ) → 8 * (w * h) ≤ work → parse M bytes work ≡ plate k w h f
-  unfolding parse table
-  parse-there work room =
+  -- where the fields after the width stand in the bytes s, reading them in either form gives the plate
+  height-there : (new : Bool) (s : List ℕ) (work at : ℕ) → 8 * (w * h) ≤ work → EncodedAt s at fields-height
+      → fromHeight new M s work w at ≡ plate new k w h M f
+  unfolding fromHeight table
+  height-there new s work at room st =
       let sz = plate-sizes pl in
       let rest₃ : List ℕ = root ∷ w * h ∷ fields-nodes in
       let rest₂ : List ℕ = k ∷ count ∷ rest₃ in
-      let st₀ = bytes-stand in
-      let at₁ : ℕ = 0 + length (varint w) in
-      let at₂ : ℕ = at₁ + length (varint h) in
+      let at₂ : ℕ = at + length (varint h) in
       let at₃ : ℕ = at₂ + length (varint k) in
       let at₄ : ℕ = at₃ + length (varint count) in
       let at₅ : ℕ = at₄ + length (varint root) in
       let at₆ : ℕ = at₅ + length (varint (w * h)) in
       let kind : k ≤ 8 = kind-most k (pl .kind) in
-      let few-nodes : count ≤ w * h = omega (arith, count-low pl bytes, pl .long) in
-      let dark : root ≤ M = level-low pl bytes 0 some-nodes in
-      let r₁ : fieldAt bytes 0 1 maxExtent ≡ accepted w at₁ =
-      encode-read bytes 0 w (h ∷ rest₂) [] st₀ 1 maxExtent (omega (arith, sz .wide .most)) (sz .wide .least) (sz .wide .most) in
-      let st₁ : EncodedAt bytes at₁ (h ∷ rest₂) = encode-rest bytes 0 w (h ∷ rest₂) [] st₀ in
-      let r₂ : fieldAt bytes at₁ 1 maxExtent ≡ accepted h at₂ =
-      encode-read bytes at₁ h rest₂ [] st₁ 1 maxExtent (omega (arith, sz .high .most)) (sz .high .least) (sz .high .most) in
-      let st₂ : EncodedAt bytes at₂ rest₂ = encode-rest bytes at₁ h rest₂ [] st₁ in
-      let r₃ : fieldAt bytes at₂ 0 (fieldBound - 1) ≡ accepted k at₃ =
-      encode-read bytes at₂ k (count ∷ rest₃) [] st₂ 0 (fieldBound - 1) (omega arith) (omega arith) (omega arith) in
-      let st₃ : EncodedAt bytes at₃ (count ∷ rest₃) = encode-rest bytes at₂ k (count ∷ rest₃) [] st₂ in
-      let r₄ : fieldAt bytes at₃ 1 (w * h) ≡ accepted count at₄ =
-      encode-read bytes at₃ count rest₃ [] st₃ 1 (w * h) (omega (arith, sz .few-pixels)) some-nodes few-nodes in
-      let st₄ : EncodedAt bytes at₄ rest₃ = encode-rest bytes at₃ count rest₃ [] st₃ in
-      let r₅ : fieldAt bytes at₄ 0 M ≡ accepted root at₅ =
-      encode-read bytes at₄ root (w * h ∷ fields-nodes) [] st₄ 0 M (omega (arith, dark, greatest-low pl bytes)) (omega arith) dark in
-      let st₅ : EncodedAt bytes at₅ (w * h ∷ fields-nodes) = encode-rest bytes at₄ root (w * h ∷ fields-nodes) [] st₄ in
-      let r₆ : fieldAt bytes at₅ 1 (w * h) ≡ accepted (w * h) at₆ =
-      encode-read bytes at₅ (w * h) fields-nodes [] st₅ 1 (w * h) (omega (arith, sz .few-pixels)) (omega (arith, plate-some pl, pl .long))
+      let few-nodes : count ≤ w * h = omega (arith, count-low pl s, pl .long) in
+      let dark : root ≤ M = level-low pl s 0 some-nodes in
+      let r₂ : fieldAt s at 1 maxExtent ≡ accepted h at₂ =
+      encode-read s at h rest₂ [] st 1 maxExtent (omega (arith, sz .high .most)) (sz .high .least) (sz .high .most) in
+      let st₂ : EncodedAt s at₂ rest₂ = encode-rest s at h rest₂ [] st in
+      let r₃ : fieldAt s at₂ 0 (fieldBound - 1) ≡ accepted k at₃ =
+      encode-read s at₂ k (count ∷ rest₃) [] st₂ 0 (fieldBound - 1) (omega arith) (omega arith) (omega arith) in
+      let st₃ : EncodedAt s at₃ (count ∷ rest₃) = encode-rest s at₂ k (count ∷ rest₃) [] st₂ in
+      let r₄ : fieldAt s at₃ 1 (w * h) ≡ accepted count at₄ =
+      encode-read s at₃ count rest₃ [] st₃ 1 (w * h) (omega (arith, sz .few-pixels)) some-nodes few-nodes in
+      let st₄ : EncodedAt s at₄ rest₃ = encode-rest s at₃ count rest₃ [] st₃ in
+      let r₅ : fieldAt s at₄ 0 M ≡ accepted root at₅ =
+      encode-read s at₄ root (w * h ∷ fields-nodes) [] st₄ 0 M (omega (arith, dark, greatest-low pl s)) (omega arith) dark in
+      let st₅ : EncodedAt s at₅ (w * h ∷ fields-nodes) = encode-rest s at₄ root (w * h ∷ fields-nodes) [] st₄ in
+      let r₆ : fieldAt s at₅ 1 (w * h) ≡ accepted (w * h) at₆ =
+      encode-read s at₅ (w * h) fields-nodes [] st₅ 1 (w * h) (omega (arith, sz .few-pixels)) (omega (arith, plate-some pl, pl .long))
       (le-refl (w * h)) in
-      let st₆ : EncodedAt bytes at₆ fields-nodes = encode-rest bytes at₅ (w * h) fields-nodes [] st₅ in
-      let thr = levels-there pl bytes (count - 1) 1 at₆ fields-own (omega (arith, some-nodes)) (omega arith) st₆ in
-      let spl = greys-there pl bytes (length f) 0 (thr .next) (zero-add (length f)) (thr .stands) in
-      let r₇ : levelsFrom M bytes (w * h) (count - 1) (root ∷ []) at₆ ≡ good (table count (levelOf (length f) (touch k w) (grey f) (nodesOf k w f)))
-      (thr .next) =
-      ap (λ (m : ℕ). levelsFrom M bytes m (count - 1) (root ∷ []) at₆) (sym (pl .long)) ∙ thr .reads in
-      let r₈ : greysFrom bytes (w * h) (table count (levelOf (length f) (touch k w) (grey f) (nodesOf k w f))) (w * h) (thr .next) ≡ good f (spl .next) =
-      ap (λ (m : ℕ). greysFrom bytes m (table count (levelOf (length f) (touch k w) (grey f) (nodesOf k w f))) m (thr .next)) (sym (pl .long))
+      let st₆ : EncodedAt s at₆ fields-nodes = encode-rest s at₅ (w * h) fields-nodes [] st₅ in
+      let thr = levels-there pl s (count - 1) 1 at₆ fields-own (omega (arith, some-nodes)) (omega arith) st₆ in
+      let spl = greys-there pl s (length f) 0 (thr .next) (zero-add (length f)) (thr .stands) in
+      let levels : List ℕ = table count (levelOf (length f) (touch k w) (grey f) (nodesOf k w f)) in
+      let r₇ : levelsFrom M s (w * h) (count - 1) (root ∷ []) at₆ ≡ good levels (thr .next) =
+      ap (λ (m : ℕ). levelsFrom M s m (count - 1) (root ∷ []) at₆) (sym (pl .long)) ∙ thr .reads in
+      let r₈ : greysFrom s (w * h) levels (w * h) (thr .next) ≡ good f (spl .next) =
+      ap (λ (m : ℕ). greysFrom s m levels m (thr .next)) (sym (pl .long))
       ∙ spl .reads ∙ ap (λ (l : List ℕ). good l (spl .next)) (table-grey f) in
-      let ended : length bytes ≤ spl .next = omega (arith, length-drop (spl .next) bytes, ap length (spl .ends)) in
+      let ended : length s ≤ spl .next = omega (arith, length-drop (spl .next) s, ap length (spl .ends)) in
       rw (
-        r₁,
         r₂,
         le-ltb maxPixels (w * h) (sz .few-pixels),
         r₃,
@@ -275,8 +275,56 @@ module _ {k w h M : ℕ} {f : List ℕ} (pl : Plate k w h M f) where
         r₆,
         r₇,
         r₈,
-        le-ltb (spl .next) (length bytes) ended,
+        le-ltb (spl .next) (length s) ended,
       )
+
+  -- ---- the two forms
+
+  -- a number that stands there is accepted
+  taken : (s : List ℕ) (at v : ℕ) (vs : List ℕ) → EncodedAt s at (v ∷ vs) → (lo hi : ℕ) → v < fieldBound → lo ≤ v → v ≤ hi
+      → Took s at lo hi v (at + length (varint v))
+  taken s at v vs st lo hi small low high = record { read = encode-read s at v vs [] st lo hi small low high; low = low; high = high }
+
+  old-there : (work : ℕ) → 8 * (w * h) ≤ work → M ≡ byteGreatest → parse (oldRecordOf k w h f) work ≡ plate false k w h M f
+  unfolding oldRecordOf
+  old-there work room is =
+      let s : List ℕ = oldRecordOf k w h f in
+      let sz = plate-sizes pl in
+      let st : EncodedAt s 0 (w ∷ fields-height) = sym (append-nil s) ∙ ap (λ (l : List ℕ). encode l ++ []) fields-are in
+      let at : ℕ = 0 + length (varint w) in
+      let wide = taken s 0 w fields-height st 0 maxExtent (omega (arith, sz .wide .most)) (omega arith) (sz .wide .most) in
+      old-form s work wide (λ e. omega (arith, sz .wide .least))
+      ∙ ap (λ (m : ℕ). fromHeight false m s work w at) (sym is)
+      ∙ height-there false s work at room (encode-rest s 0 w fields-height [] st)
+
+  new-there : (work : ℕ) → 8 * (w * h) ≤ work → parse (recordOf k w h M f) work ≡ plate true k w h M f
+  unfolding recordOf
+  new-there work room =
+      let s : List ℕ = recordOf k w h M f in
+      let sz = plate-sizes pl in
+      let all : List ℕ = w ∷ fields-height in
+      let st₀ : EncodedAt s 0 (0 ∷ 2 ∷ M ∷ all) = sym (append-nil s) ∙ ap (λ (l : List ℕ). encode (0 ∷ 2 ∷ M ∷ l) ++ []) fields-are in
+      let at₁ : ℕ = 0 + length (varint 0) in
+      let at₂ : ℕ = at₁ + length (varint 2) in
+      let at₃ : ℕ = at₂ + length (varint M) in
+      let at₄ : ℕ = at₃ + length (varint w) in
+      let st₁ : EncodedAt s at₁ (2 ∷ M ∷ all) = encode-rest s 0 0 (2 ∷ M ∷ all) [] st₀ in
+      let st₂ : EncodedAt s at₂ (M ∷ all) = encode-rest s at₁ 2 (M ∷ all) [] st₁ in
+      let st₃ : EncodedAt s at₃ all = encode-rest s at₂ M all [] st₂ in
+      let st₄ : EncodedAt s at₄ fields-height = encode-rest s at₃ w fields-height [] st₃ in
+      let mark = taken s 0 0 (2 ∷ M ∷ all) st₀ 0 maxExtent (omega arith) (omega arith) (omega arith) in
+      let version = taken s at₁ 2 (M ∷ all) st₁ 2 2 (omega arith) (omega arith) (omega arith) in
+      let range = greatest-range M (pl .range) in
+      let greatest = taken s at₂ M all st₂ 1 maxGreatest (omega (arith, range .most)) (range .least) (range .most) in
+      let wide = taken s at₃ w fields-height st₃ 1 maxExtent (omega (arith, sz .wide .most)) (sz .wide .least) (sz .wide .most) in
+      new-form s work mark refl ∙ after-version s work at₁ version ∙ after-greatest s work at₂ greatest ∙ after-width s work at₃ M wide
+      ∙ height-there true s work at₄ room st₄
+
+-- a plate's record in a form is parsed as that plate. In the old form its greatest grey is that of a byte
+pub parse-there : {k w h M : ℕ} {f : List ℕ} → Plate k w h M f → (new : Bool) → (new ≡ false → M ≡ byteGreatest) → (work : ℕ) → 8 * (w * h) ≤ work
+    → parse (recordIn new k w h M f) work ≡ plate new k w h M f
+parse-there pl true old work room = new-there pl work room
+parse-there pl false old work room = old-there pl work room (old refl)
 
 -- ---- and 24
 
@@ -285,14 +333,22 @@ unfolding sameBytes
 bytes-same [] = refl
 bytes-same (x ∷ xs) = rw (eq-eqb x x refl, bytes-same xs)
 
--- a plate's record, given its space, is read as that plate
-pub read-there : {k w h M : ℕ} {f : List ℕ} → Plate k w h M f → (work : ℕ) → 8 * (w * h) ≤ work → readOf M (recordOf k w h f) work ≡ plate k w h f
+-- a plate's record in a form, given its space, is read as that plate
+pub read-there : {k w h M : ℕ} {f : List ℕ} → Plate k w h M f → (new : Bool) → (new ≡ false → M ≡ byteGreatest) → (work : ℕ) → 8 * (w * h) ≤ work
+    → readOf (recordIn new k w h M f) work ≡ plate new k w h M f
 unfolding readOf
-read-there {k} {w} {h} {f = f} pl work room = rw (parse-there pl work room, bytes-same (recordOf k w h f))
+read-there {k} {w} {h} {M} {f} pl new old work room =
+    ap (compared (recordIn new k w h M f)) (parse-there pl new old work room) ∙ rw (bytes-same (recordIn new k w h M f))
 
--- two plates with one record are one
-pub record-injective : {k k′ w w′ h h′ M : ℕ} {f f′ : List ℕ} → Plate k w h M f → Plate k′ w′ h′ M f′ → recordOf k w h f ≡ recordOf k′ w′ h′ f′
-    → plate k w h f ≡ plate k′ w′ h′ f′
-record-injective {k} {k′} {w} {w′} {h} {h′} {M} {f} {f′} pl pl′ e =
+-- plates and forms with one record are one
+pub record-injective : {k k′ w w′ h h′ M M′ : ℕ} {f f′ : List ℕ} → Plate k w h M f → Plate k′ w′ h′ M′ f′ → (new new′ : Bool)
+    → (new ≡ false → M ≡ byteGreatest) → (new′ ≡ false → M′ ≡ byteGreatest) → recordIn new k w h M f ≡ recordIn new′ k′ w′ h′ M′ f′
+    → plate new k w h M f ≡ plate new′ k′ w′ h′ M′ f′
+record-injective {w = w} {w′} {h} {h′} pl pl′ new new′ old old′ e =
     let work : ℕ = 8 * (w * h) + 8 * (w′ * h′) in
-    sym (parse-there pl work (omega arith)) ∙ ap (λ (s : List ℕ). parse M s work) e ∙ parse-there pl′ work (omega arith)
+    sym (parse-there pl new old work (omega arith)) ∙ ap (λ (s : List ℕ). parse s work) e ∙ parse-there pl′ new′ old′ work (omega arith)
+
+-- the same of the new form
+
+pub read-new : {k w h M : ℕ} {f : List ℕ} → Plate k w h M f → (work : ℕ) → 8 * (w * h) ≤ work → readOf (recordOf k w h M f) work ≡ plate true k w h M f
+read-new pl work room = read-there pl true not-old work room

@@ -15,7 +15,7 @@ cast-result c =
 
 returns : tie.Need-returns
 unfolding columnFields
-returns c = let e : c .before .before .before .args .i ≡ 0 = omega arith in rw e
+returns c = let e : c .before .before .before .args .i ≡ 3 = omega arith in rw e
 
 cast-result-2 : tie.Need-cast-result-2
 cast-result-2 c =
@@ -24,7 +24,7 @@ cast-result-2 c =
 
 returns-2 : tie.Need-returns-2
 unfolding columnFields
-returns-2 c = let e : c .before .before .before .before .args .i ≡ 1 = omega arith in rw e
+returns-2 c = let e : c .before .before .before .before .args .i ≡ 4 = omega arith in rw e
 
 cast-result-3 : tie.Need-cast-result-3
 cast-result-3 c =
@@ -33,7 +33,7 @@ cast-result-3 c =
 
 returns-3 : tie.Need-returns-3
 unfolding columnFields
-returns-3 c = let e : c .before .before .before .before .before .args .i ≡ 2 = omega arith in rw e
+returns-3 c = let e : c .before .before .before .before .before .args .i ≡ 5 = omega arith in rw e
 
 cast-result-4 : tie.Need-cast-result-4
 cast-result-4 c =
@@ -42,7 +42,7 @@ cast-result-4 c =
 
 returns-4 : tie.Need-returns-4
 unfolding columnFields
-returns-4 c = let e : c .before .before .before .before .before .args .i ≡ 3 = omega arith in rw e
+returns-4 c = let e : c .before .before .before .before .before .args .i ≡ 6 = omega arith in rw e
 
 get-requires : tie.Need-get-requires
 get-requires c κs =
@@ -54,7 +54,7 @@ cast-result-5 c = omega (arith, c .get .ensures .1)
 
 returns-5 : tie.Need-returns-5
 unfolding columnFields
-returns-5 c = let e : c .before .before .before .before .before .before .before .args .i ≡ 4 = omega arith in rw (e, c .get .ensures .0)
+returns-5 c = let e : c .before .before .before .before .before .before .before .args .i ≡ 7 = omega arith in rw (e, c .get .ensures .0)
 
 get-requires-2 : tie.Need-get-requires-2
 get-requires-2 c κs =
@@ -66,7 +66,7 @@ cast-result-6 c = omega (arith, c .get2 .ensures .1)
 
 returns-6 : tie.Need-returns-6
 unfolding columnFields
-returns-6 c = let e : c .before .before .before .before .before .before .before .args .i ≡ 5 = omega arith in rw (e, c .get2 .ensures .0)
+returns-6 c = let e : c .before .before .before .before .before .before .before .args .i ≡ 8 = omega arith in rw (e, c .get2 .ensures .0)
 
 pub head-field-spec : {M : Type 1} → statement M
 head-field-spec =

@@ -14,7 +14,7 @@ abbrev Inv-loop : tie.InvT-loop
 Inv-loop w g count fields size₀ i₀ size i = Measured (columnFields g w count) i size
 
 abbrev μ-loop : tie.MeasureT-loop
-μ-loop w g count fields size₀ i₀ size i = 3 * count + 3 + g .pixels - i
+μ-loop w g count fields size₀ i₀ size i = 3 * count + 6 + g .pixels - i
 
 mul-fields : tie.Need-mul-fields Inv-loop μ-loop
 mul-fields c = omega (arith, column-few (c .before .pre))

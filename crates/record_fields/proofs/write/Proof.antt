@@ -13,7 +13,7 @@ abbrev Inv-loop : tie.InvT-loop
 Inv-loop w g count out₀ end at₀ i₀ out at i = Wrote (columnFields g w count) out₀ out i at
 
 abbrev μ-loop : tie.MeasureT-loop
-μ-loop w g count out₀ end at₀ i₀ out at i = 3 * count + 3 + g .pixels - i
+μ-loop w g count out₀ end at₀ i₀ out at i = 3 * count + 6 + g .pixels - i
 
 mul-end : tie.Need-mul-end Inv-loop μ-loop
 mul-end c = omega (arith, column-few (c .before .before .pre .0))

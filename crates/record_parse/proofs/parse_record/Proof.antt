@@ -5,23 +5,16 @@ use Rattle.record_parse.proofs.parse_record.Tie as tie
 use mathlib.Core.Path.{_≡_, sym, _∙_}
 use mathlib.Core.Bool.{true}
 use mathlib.Core.List.{List}
-use Prim.Native.Nat.{ℕ, _*_}
-use borrow.Author.Tests.{not-true, not-false}
+use Prim.Native.Nat.{ℕ}
 use denote.Ref.{now}
 use lib.ListN.{length}
-use Rattle.meaning.specs.Plate.{connectivityFits}
-use Rattle.plate_refusals.proofs.Refusals.{work-none}
-use Rattle.work_columns.specs.Columns.{Room}
-use Rattle.record_parse.specs.Parse.{Parsed, parse}
-use Rattle.record_parse.proofs.Fields.{took, stopped}
-use Rattle.record_parse.proofs.Record.{AfterWidth, AfterHeight, AfterConnectivity, AfterCount, after-width, width-stops, after-height}
-use Rattle.record_parse.proofs.Record.{height-stops, too-large, after-connectivity, connectivity-stops, no-connectivity, after-count}
-use Rattle.record_parse.proofs.Record.{count-stops, too-short, begun, early-answer, late-answer, plate-answer}
+use Rattle.meaning.specs.Plate.{maxExtent}
+use Rattle.record_parse.specs.Parse.{Parsed, fromGreatest, fromHeight, fromVersion, fromWidth, parse}
+use Rattle.record_parse.proofs.Fields.{Took, took, stopped}
+use Rattle.record_parse.proofs.Record.{after-greatest, after-version, after-width, early-answer, form-stops, greatest-stops, new-form, old-form}
+use Rattle.record_parse.proofs.Record.{version-stops, width-stops}
 
--- ---- what is known at each place: the greatest grey, the bytes, the length of the work space, and each field with the position after it
-abbrev greatest : tie.Start → ℕ
-greatest c = c .args .greatest
-
+-- ---- what is known at each place: the bytes, the length of the work space, and each field with the position after it
 abbrev bytes : tie.Start → List ℕ
 bytes c = now (c .args .s)
 
@@ -29,88 +22,80 @@ abbrev space : tie.Start → ℕ
 space c = length (now (c .args .work))
 
 abbrev spelt : tie.Start → Parsed
-spelt c = parse (greatest c) (bytes c) (space c)
+spelt c = parse (bytes c) (space c)
 
--- the width
+-- the first field
 abbrev start1 : tie.After-known-told → tie.Start
 start1 c = c .before .before .before .before .before .before
-
-abbrev w1 : tie.After-known-told → ℕ
-w1 c = c .before .f1 .given .0 .0
 
 abbrev at1 : tie.After-known-told → ℕ
 at1 c = c .before .f1 .given .0 .1 .0
 
-width1 : (c : tie.After-known-told) → AfterWidth (greatest (start1 c)) (bytes (start1 c)) (space (start1 c)) (w1 c) (at1 c)
-width1 c = after-width (took (bytes (start1 c)) 0 1 32768 (c .before .before .before .read-field .ensures) (c .before .f1 .given .1))
+first1 : (c : tie.After-known-told) → Took (bytes (start1 c)) 0 0 maxExtent (c .before .f1 .given .0 .0) (at1 c)
+first1 c = took (bytes (start1 c)) 0 0 32768 (c .before .before .before .read-field .ensures) (c .before .f1 .given .1)
 
--- the height
-abbrev told1 : tie.After-known-told2 → tie.After-known-told
-told1 c = c .before .before .before .before
+-- the new form
+abbrev told1 : tie.Else1 → tie.After-known-told
+told1 c = c .before
+
+new1 : (c : tie.Else1) → let s = start1 (told1 c) in spelt s ≡ fromVersion (bytes s) (space s) (at1 (told1 c))
+new1 c = let s = start1 (told1 c) in new-form (bytes s) (space s) (first1 (told1 c)) (c .if1 .left)
+
+-- the second field
+abbrev else2 : tie.After-known-told2 → tie.Else1
+else2 c = c .before .before .before .before
 
 abbrev start2 : tie.After-known-told2 → tie.Start
-start2 c = start1 (told1 c)
-
-abbrev h2 : tie.After-known-told2 → ℕ
-h2 c = c .before .f2 .given .0 .0
+start2 c = start1 (told1 (else2 c))
 
 abbrev at2 : tie.After-known-told2 → ℕ
 at2 c = c .before .f2 .given .0 .1 .0
 
-height2 : (c : tie.After-known-told2) → AfterHeight (greatest (start2 c)) (bytes (start2 c)) (space (start2 c)) (w1 (told1 c)) (h2 c) (at2 c)
-height2 c =
-    after-height (width1 (told1 c))
-    (took (bytes (start2 c)) (at1 (told1 c)) 1 32768 (c .before .before .before .read-field2 .ensures) (c .before .f2 .given .1))
+version2 : (c : tie.After-known-told2) → spelt (start2 c) ≡ fromGreatest (bytes (start2 c)) (space (start2 c)) (at2 c)
+version2 c =
+    let s = start2 c in
+    let at = at1 (told1 (else2 c)) in
+    new1 (else2 c)
+    ∙ after-version (bytes s) (space s) at (took (bytes s) at 2 2 (c .before .before .before .read-field2 .ensures) (c .before .f2 .given .1))
 
--- the connectivity
+-- the greatest grey
 abbrev told2 : tie.After-known-told3 → tie.After-known-told2
-told2 c = c .before .before .before .before .before
+told2 c = c .before .before .before .before
 
 abbrev start3 : tie.After-known-told3 → tie.Start
 start3 c = start2 (told2 c)
 
-abbrev k3 : tie.After-known-told3 → ℕ
-k3 c = c .before .f3 .given .0 .0
+abbrev greatest3 : tie.After-known-told3 → ℕ
+greatest3 c = c .before .f3 .given .0 .0
 
 abbrev at3 : tie.After-known-told3 → ℕ
 at3 c = c .before .f3 .given .0 .1 .0
 
-connectivity3 : (c : tie.After-known-told3)
-    → AfterConnectivity (greatest (start3 c)) (bytes (start3 c)) (space (start3 c)) (w1 (told1 (told2 c))) (h2 (told2 c)) (k3 c) (at3 c)
-connectivity3 c =
-    after-connectivity (height2 (told2 c)) (c .before .before .before .before .if1 .left)
-    (took (bytes (start3 c)) (at2 (told2 c)) 0 4294967295 (c .before .before .before .read-field3 .ensures) (c .before .f3 .given .1))
+after3 : (c : tie.After-known-told3) → spelt (start3 c) ≡ fromWidth (bytes (start3 c)) (space (start3 c)) (greatest3 c) (at3 c)
+after3 c =
+    let s = start3 c in
+    let at = at2 (told2 c) in
+    version2 (told2 c)
+    ∙ after-greatest (bytes s) (space s) at (took (bytes s) at 1 65535 (c .before .before .before .read-field3 .ensures) (c .before .f3 .given .1))
 
-fit : (c : tie.Else2) → connectivityFits (k3 (c .before .before)) ≡ true
-fit c = sym (c .before .connectivity-fits .ensures) ∙ not-false _ (c .if2 .left)
-
--- the node count
+-- the width
 abbrev told3 : tie.After-known-told4 → tie.After-known-told3
-told3 c = c .before .before .before .before .before .before
+told3 c = c .before .before .before .before
 
 abbrev start4 : tie.After-known-told4 → tie.Start
 start4 c = start3 (told3 c)
 
-abbrev w4 : tie.After-known-told4 → ℕ
-w4 c = w1 (told1 (told2 (told3 c)))
+abbrev width4 : tie.After-known-told4 → ℕ
+width4 c = c .before .f4 .given .0 .0
 
-abbrev h4 : tie.After-known-told4 → ℕ
-h4 c = h2 (told2 (told3 c))
+took4 : (c : tie.After-known-told4) → Took (bytes (start4 c)) (at3 (told3 c)) 1 maxExtent (width4 c) (c .before .f4 .given .0 .1 .0)
+took4 c = took (bytes (start4 c)) (at3 (told3 c)) 1 32768 (c .before .before .before .read-field4 .ensures) (c .before .f4 .given .1)
 
-abbrev k4 : tie.After-known-told4 → ℕ
-k4 c = k3 (told3 c)
-
-count4 : (c : tie.After-known-told4)
-    → AfterCount (greatest (start4 c)) (bytes (start4 c)) (space (start4 c)) (w4 c) (h4 c) (k4 c) (c .before .f4 .given .0 .0) (c .before .f4 .given .0 .1 .0)
-count4 c =
-    after-count (connectivity3 (told3 c)) (fit (c .before .before .before .before))
-    (took (bytes (start4 c)) (at3 (told3 c)) 1 (w4 c * h4 c) (c .before .before .before .read-field4 .ensures) (c .before .f4 .given .1))
-
--- past the test of 6
-room4 : (c : tie.Else3) → let a = c .before .before in Room (now (start4 a .args .work)) (w4 a * h4 a)
-room4 c =
-    let a = c .before .before in
-    record { small = count4 a .pixels; room = work-none (w4 a * h4 a) (space (start4 a)) 0 (sym (c .before .work-refusal .ensures) ∙ c .if3 .left) .0 }
+after4 : (c : tie.After-known-told4)
+    → let s = start4 c in spelt s ≡ fromHeight true (greatest3 (told3 c)) (bytes s) (space s) (width4 c) (c .before .f4 .given .0 .1 .0)
+after4 c =
+    let s = start4 c in
+    after3 (told3 c) ∙ after-width (bytes s) (space s) (at3 (told3 c)) (greatest3 (told3 c)) (took4 c)
 
 read-field-requires : tie.Need-read-field-requires
 read-field-requires c κs = tt
@@ -126,10 +111,23 @@ refusal-requires c κs = tt
 
 returns : tie.Need-returns
 returns c =
-    let st = c .before .before .before .before .before .before in
-    early-answer (spelt st) (now (st .args .work))
-    (width-stops (greatest st) (bytes st) (space st)
-    (stopped (c .before .before .before .read-field .ensures) (c .before .enum-told .given .1) (c .refusal .ensures)))
+    let s = c .before .before .before .before .before .before in
+    early-answer (spelt s) (now (s .args .work))
+    (form-stops (bytes s) (space s) (stopped (c .before .before .before .read-field .ensures) (c .before .enum-told .given .1) (c .refusal .ensures)))
+
+parse-plate-requires : tie.Need-parse-plate-requires
+parse-plate-requires c κs = first1 (c .before .before) .high
+
+same-length : tie.Need-same-length
+same-length c = search needs
+
+returns-2 : tie.Need-returns-2
+returns-2 c =
+    let p = c .before .before in
+    let e = p .before .before in
+    let a = e .before in
+    let s = start1 a in
+    (p .parse-plate .ensures .0 ∙ sym (old-form (bytes s) (space s) (first1 a) (e .if1 .taken)), p .parse-plate .ensures .1)
 
 read-field-requires-2 : tie.Need-read-field-requires-2
 read-field-requires-2 c κs = tt
@@ -143,19 +141,13 @@ enum-told-2 c = search needs
 refusal-requires-2 : tie.Need-refusal-requires-2
 refusal-requires-2 c κs = tt
 
-returns-2 : tie.Need-returns-2
-returns-2 c =
-    let a = c .before .before .before .before in
-    early-answer (spelt (start1 a)) (now (start1 a .args .work))
-    (height-stops (width1 a) (stopped (c .before .before .before .read-field2 .ensures) (c .before .enum-told2 .given .1) (c .refusal2 .ensures)))
-
-mul-pixels : tie.Need-mul-pixels
-mul-pixels c = record { fits = height2 c .fits }
-
 returns-3 : tie.Need-returns-3
 returns-3 c =
-    let a = c .before in
-    early-answer (spelt (start2 a)) (now (start2 a .args .work)) (too-large (height2 a) (c .if1 .taken))
+    let a = c .before .before .before .before in
+    let s = start1 (told1 a) in
+    early-answer (spelt s) (now (s .args .work))
+    (new1 a ∙ version-stops (bytes s) (space s) (at1 (told1 a))
+    (stopped (c .before .before .before .read-field2 .ensures) (c .before .enum-told2 .given .1) (c .refusal2 .ensures)))
 
 read-field-requires-3 : tie.Need-read-field-requires-3
 read-field-requires-3 c κs = tt
@@ -171,20 +163,11 @@ refusal-requires-3 c κs = tt
 
 returns-4 : tie.Need-returns-4
 returns-4 c =
-    let e = c .before .before .before .before in
-    let a = e .before in
-    early-answer (spelt (start2 a)) (now (start2 a .args .work))
-    (connectivity-stops (height2 a) (e .if1 .left)
+    let a = c .before .before .before .before in
+    let s = start2 a in
+    early-answer (spelt s) (now (s .args .work))
+    (version2 a ∙ greatest-stops (bytes s) (space s) (at2 a)
     (stopped (c .before .before .before .read-field3 .ensures) (c .before .enum-told3 .given .1) (c .refusal3 .ensures)))
-
-connectivity-fits-requires : tie.Need-connectivity-fits-requires
-connectivity-fits-requires c κs = tt
-
-returns-5 : tie.Need-returns-5
-returns-5 c =
-    let a = c .before .before in
-    early-answer (spelt (start3 a)) (now (start3 a .args .work))
-    (no-connectivity (connectivity3 a) (sym (c .before .connectivity-fits .ensures) ∙ not-true _ (c .if2 .taken)))
 
 read-field-requires-4 : tie.Need-read-field-requires-4
 read-field-requires-4 c κs = tt
@@ -198,57 +181,24 @@ enum-told-4 c = search needs
 refusal-requires-4 : tie.Need-refusal-requires-4
 refusal-requires-4 c κs = tt
 
-returns-6 : tie.Need-returns-6
-returns-6 c =
-    let e = c .before .before .before .before in
-    let a = e .before .before in
-    early-answer (spelt (start3 a)) (now (start3 a .args .work))
-    (count-stops (connectivity3 a) (fit e) (stopped (c .before .before .before .read-field4 .ensures) (c .before .enum-told4 .given .1) (c .refusal4 .ensures)))
+returns-5 : tie.Need-returns-5
+returns-5 c =
+    let a = c .before .before .before .before in
+    let s = start3 a in
+    early-answer (spelt s) (now (s .args .work))
+    (after3 a ∙ width-stops (bytes s) (space s) (at3 a) (greatest3 a)
+    (stopped (c .before .before .before .read-field4 .ensures) (c .before .enum-told4 .given .1) (c .refusal4 .ensures)))
 
-cast-n : tie.Need-cast-n
-cast-n c = search needs
-
-work-refusal-requires : tie.Need-work-refusal-requires
-work-refusal-requires c κs = search needs
-
-returns-7 : tie.Need-returns-7
-returns-7 c =
-    let a = c .before .before in
-    early-answer (spelt (start4 a)) (now (start4 a .args .work)) (too-short (count4 a) (c .before .work-refusal .ensures) (c .if3 .taken))
-
-cast-read-tree-fields : tie.Need-cast-read-tree-fields
-cast-read-tree-fields c = search needs
-
-read-tree-fields-requires : tie.Need-read-tree-fields-requires
-read-tree-fields-requires c κs =
-    let a = c .before .before .before in
-    (room4 (c .before), (count4 a .some, count4 a .most))
-
-enum-known-tree : tie.Need-enum-known-tree
-enum-known-tree c = search needs
-
-same-length : tie.Need-same-length
-same-length c = search needs
-
-returns-8 : tie.Need-returns-8
-returns-8 c =
-    let t = c .before .before .before .before .before in
-    let e = t .before .before in
-    let a = e .before .before in
-    late-answer (spelt (start4 a)) (k4 a) (w4 a) (h4 a) (room4 e) (t .read-tree-fields .ensures) (begun (count4 a) (room4 e .room)) (c .before .tree .given .1)
-
-enum-told-5 : tie.Need-enum-told-5
-enum-told-5 c = search needs
+parse-plate-requires-2 : tie.Need-parse-plate-requires-2
+parse-plate-requires-2 c κs = took4 (c .before) .high
 
 same-length-2 : tie.Need-same-length-2
 same-length-2 c = search needs
 
-returns-9 : tie.Need-returns-9
-returns-9 c =
-    let t = c .before .before .before .before in
-    let e = t .before .before in
-    let a = e .before .before in
-    plate-answer (spelt (start4 a)) (k4 a) (w4 a) (h4 a) (room4 e) (t .read-tree-fields .ensures) (begun (count4 a) (room4 e .room)) (c .enum-told5 .given .1)
+returns-6 : tie.Need-returns-6
+returns-6 c =
+    let p = c .before .before in
+    (p .parse-plate2 .ensures .0 ∙ sym (after4 (p .before .before)), p .parse-plate2 .ensures .1)
 
 pub parse-record-spec : {M : Type 1} → statement M
 parse-record-spec =
@@ -259,33 +209,24 @@ parse-record-spec =
     enum-told
     refusal-requires
     returns
+    parse-plate-requires
+    same-length
+    returns-2
     read-field-requires-2
     enum-known-f2
     enum-told-2
     refusal-requires-2
-    returns-2
-    mul-pixels
     returns-3
     read-field-requires-3
     enum-known-f3
     enum-told-3
     refusal-requires-3
     returns-4
-    connectivity-fits-requires
-    returns-5
     read-field-requires-4
     enum-known-f4
     enum-told-4
     refusal-requires-4
-    returns-6
-    cast-n
-    work-refusal-requires
-    returns-7
-    cast-read-tree-fields
-    read-tree-fields-requires
-    enum-known-tree
-    same-length
-    returns-8
-    enum-told-5
+    returns-5
+    parse-plate-requires-2
     same-length-2
-    returns-9)
+    returns-6)

@@ -2,6 +2,7 @@
 use borrow.Author.Needs.{needs}
 use Rattle.record_tree.proofs.read_tree.Statement.{statement}
 use Rattle.record_tree.proofs.read_tree.Tie as tie
+use mathlib.Core.Bool.{Bool}
 use Prim.Native.Nat.{ℕ}
 use native.Mathlib.Omega.{arith}
 use borrow.Author.Tests.{not-true, not-false}
@@ -10,15 +11,21 @@ use Rattle.maxtree_columns.proofs.Tree.{tree-here}
 use Rattle.record_parse.specs.Parse.{parse, readOf}
 use Rattle.record_tree.proofs.Finding.{PlateSpelt, spelt, spelt-buildable, spelt-few, found-different, found-tree, unspelt-found}
 
--- the plate that the bytes spell: width, height, connectivity
+-- the plate that the bytes spell: the record's form, width, height, greatest grey, connectivity
+abbrev new : tie.After-known-told → Bool
+new c = c .before .p .given .0 .0
+
 abbrev wide : tie.After-known-told → ℕ
-wide c = c .before .p .given .0 .0
+wide c = c .before .p .given .0 .1 .0
 
 abbrev high : tie.After-known-told → ℕ
-high c = c .before .p .given .0 .1 .0
+high c = c .before .p .given .0 .1 .1 .0
+
+abbrev greatest : tie.After-known-told → ℕ
+greatest c = c .before .p .given .0 .1 .1 .1 .0
 
 abbrev kind : tie.After-known-told → ℕ
-kind c = c .before .p .given .0 .1 .1 .0
+kind c = c .before .p .given .0 .1 .1 .1 .1 .0
 
 abbrev parsed : tie.After-known-told → tie.After-parse-record
 parsed c = c .before .before .before .before .before
@@ -28,11 +35,11 @@ start c = c .before .before .before .before
 
 told : (c : tie.After-known-told)
     → let s = start (parsed c) .args in
-    PlateSpelt (s .greatest) (now (s .bytes)) (now (s .work)) (parsed c .parse-record .last .1 .1 .0) (wide c) (high c) (kind c)
+    PlateSpelt (now (s .bytes)) (now (s .work)) (parsed c .parse-record .last .1 .0) (new c) (wide c) (high c) (greatest c) (kind c)
 told c =
     let p = parsed c .parse-record in
     let s = start (parsed c) in
-    spelt (s .pre) (now (s .args .bytes)) (p .ensures .0) (p .ensures .1) (c .before .p .given .1)
+    spelt (now (s .args .bytes)) (p .ensures .0) (p .ensures .1) (c .before .p .given .1)
 
 parse-record-requires : tie.Need-parse-record-requires
 parse-record-requires c κs = search needs
@@ -52,7 +59,7 @@ returns c =
     let a = c .before .before .before .before in
     let s = start a .args in
     let p = a .parse-record in
-    unspelt-found (now (s .bytes)) (now (s .work)) (p .last .1 .1 .0) (p .result) (p .ensures .0) (p .ensures .1) (c .before .match .keys2)
+    unspelt-found (now (s .bytes)) (now (s .work)) (p .last .1 .0) (p .result) (p .ensures .0) (p .ensures .1) (c .before .match .keys2)
     (c .unspelt .ensures)
 
 mul-n : tie.Need-mul-n

@@ -28,8 +28,11 @@ get-requires c κs = search needs
 
 cast-out : tie.Need-cast-out Inv-loop μ-loop
 cast-out c =
-    let g = c .before .before .before .before .before .pre .bytes (c .before .before .loop .p) (c .before .loop-test .taken) in
+    let g = c .before .before .before .before .before .pre .greys (c .before .before .loop .p) (c .before .loop-test .taken) in
     omega (arith, c .get .ensures .0, g)
+
+mul-out : tie.Need-mul-out Inv-loop μ-loop
+mul-out c = omega (arith, c .before .before .before .before .before .pre .room .small)
 
 slice-write-out : tie.Need-slice-write-out Inv-loop μ-loop
 slice-write-out c = omega arith
@@ -67,6 +70,7 @@ write-greys-spec =
     loop-holds
     get-requires
     cast-out
+    mul-out
     slice-write-out
     add-p
     loop-less
