@@ -1,6 +1,6 @@
 -- The operations that read a record, where nothing is refused: the tree of its plate stands in the work space.
 use mathlib.Core.Path.{_≡_, sym, ap, _∙_}
-use mathlib.Core.Bool.{false}
+use mathlib.Core.Bool.{Bool, false}
 use mathlib.Core.List.{List, _++_}
 use Prim.Native.Nat.{ℕ, _*_, _≤_}
 use native.Mathlib.Omega.{arith}
@@ -11,10 +11,10 @@ use Rattle.work_columns.specs.Columns.{Room}
 use Rattle.work_columns.specs.Layout.{greysIn, shapeOf}
 use Rattle.work_columns.specs.declared.Shape.{Shape}
 use Rattle.work_columns.proofs.Columns.{cleared, frame-room, frame-trans}
-use Rattle.theory_connectivity.proofs.Sizes.{grid-sizes}
+use Rattle.theory_connectivity.proofs.Sizes.{greatest-range, grid-sizes}
 use Rattle.maxtree_columns.specs.Tree.{TreeStands}
 use Rattle.maxtree_columns.proofs.Tree.{few-nodes}
-use Rattle.maxtree_values.specs.Values.{ByteGreys, Delivered, ValuesAre, Writable}
+use Rattle.maxtree_values.specs.Values.{Delivered, ValuesAre, Writable}
 use Rattle.plate_refusals.proofs.Refusals.{limit-none, out-none, tables-none}
 use Rattle.record_parse.specs.Parse.{Parsed}
 use Rattle.record_sizes.specs.Sizes.{SizesWritten, TablesFit}
@@ -22,7 +22,7 @@ use Rattle.record_tree.specs.Found.{GreysStand}
 use Rattle.record_tree.proofs.Finding.{TreeFound}
 use Rattle.record.specs.Reading.{CutRecord, ListedSizes, ReadRecord}
 
-module _ {M : ℕ} {P : Parsed} {wd ht k count : ℕ} {work w₁ : List ℕ} (t : TreeFound M P wd ht k work w₁ count) where
+module _ {P : Parsed} {new : Bool} {wd ht M k count : ℕ} {work w₁ : List ℕ} (t : TreeFound P new wd ht M k work w₁ count) where
   -- the pixels
   pub tree-few : wd * ht ≤ 16777216
   tree-few = grid-sizes wd ht (t .tree .plate .sizes) .few-pixels
@@ -33,16 +33,22 @@ module _ {M : ℕ} {P : Parsed} {wd ht k count : ℕ} {work w₁ : List ℕ} (t 
   -- ---- reading. r, here and below: what was found to be the refusal by the operation's own conditions
 
   module _ {r : ℕ} {out : List ℕ} (e : r ≡ outRefusal (wd * ht) (length out) 0) (z : r ≡ 0) where
-    pub read-greys : ByteGreys M → GreysStand (wd * ht) w₁ out
-    read-greys bytes = record {
+    pub read-greys : GreysStand (wd * ht) w₁ out
+    read-greys = record {
       room = tree-room;
-      bytes = λ p l. omega (arith, ap (λ (h : ℕ → ℕ). h p) (t .tree .greys), t .tree .plate .greys p (omega (arith, t .tree .pixels)));
+      greys = λ p l.
+          omega (
+            arith,
+            ap (λ (h : ℕ → ℕ). h p) (t .tree .greys),
+            t .tree .plate .greys p (omega (arith, t .tree .pixels)),
+            greatest-range M (t .tree .plate .range) .most,
+          );
       places = out-none (wd * ht) (length out) 0 (sym e ∙ z) .0;
     }
 
     pub read-done : {out′ w₂ : List ℕ} → out′ ≡ over (greysIn (wd * ht) w₁) out
         → w₂ ≡ replicate (8 * (wd * ht)) 0 ++ drop (8 * (wd * ht)) w₁
-        → ReadRecord P out out′ work w₂ (record { refusal = 0; width = wd; height = ht; connectivity = k })
+        → ReadRecord P out out′ work w₂ (record { refusal = 0; width = wd; height = ht; greatest = M; connectivity = k })
     read-done d c =
         let y : outRefusal (wd * ht) (length out) 0 ≡ 0 = sym e ∙ z in
         rw (t .is) (record { answer = rw y; output = rw y d; space = cleared (t .frame) c })
@@ -75,11 +81,11 @@ module _ {M : ℕ} {P : Parsed} {wd ht k count : ℕ} {work w₁ : List ℕ} (t 
         values : ValuesAre (wd * ht) M (cut k wd ht limit (greysIn (wd * ht) w₁)) w₁ w₂
         values = rw shape at v
 
-        pub cut-writable : ByteGreys M → (Writable (wd * ht) (g .greatest) w₂ × ByteGreys (g .greatest)) × (wd * ht ≤ length out)
-        cut-writable bytes = rw greatest-is ((values .writable, bytes), cut-limit .1)
+        pub cut-writable : Writable (wd * ht) (g .greatest) w₂ × (wd * ht ≤ length out)
+        cut-writable = rw greatest-is (values .writable, cut-limit .1)
 
         pub cut-done : {out′ w₃ : List ℕ} → Delivered false (wd * ht) (g .greatest) w₂ w₃ out out′
-            → CutRecord P limit out out′ work w₃ (record { refusal = 0; width = wd; height = ht; connectivity = k })
+            → CutRecord P limit out out′ work w₃ (record { refusal = 0; width = wd; height = ht; greatest = M; connectivity = k })
         cut-done d =
             let y : limitRefusal (wd * ht) limit (outRefusal (wd * ht) (length out) 0) ≡ 0 = sym e ∙ z in
             rw (t .is) (record {
@@ -106,7 +112,7 @@ module _ {M : ℕ} {P : Parsed} {wd ht k count : ℕ} {work w₁ : List ℕ} (t 
       pub sizes-done : {counted′ lost′ w₂ w₃ : List ℕ} {d x : ℕ} → d ≡ darkest (greysIn (g .pixels) w₁)
           → SizesWritten g w₁ w₂ counted counted′ lost lost′ x → w₃ ≡ replicate (8 * (wd * ht)) 0 ++ drop (8 * (wd * ht)) w₂
           → ListedSizes P counted counted′ lost lost′ work w₃
-          (record { refusal = 0; width = wd; height = ht; connectivity = k; nodes = count; darkest = d; held = x })
+          (record { refusal = 0; width = wd; height = ht; greatest = M; connectivity = k; nodes = count; darkest = d; held = x })
       sizes-done {counted′} {lost′} {w₂} {d = d} {x} dark s c =
           let y : tablesRefusal (wd * ht) (length counted) (length lost) 0 ≡ 0 = sym e ∙ z in
           let s′ : SizesWritten (shapeOf (wd * ht) wd ht M k) w₁ w₂ counted counted′ lost lost′ x = rw shape at s in

@@ -1,7 +1,7 @@
 -- The operations that read a record, where it is refused: up to 24, and by their own conditions 4 and 5. P: what reading finds up to 24.
 use mathlib.Core.Logic.{_⊎_, ⊎-elim}
 use mathlib.Core.Path.{_≡_, refl}
-use mathlib.Core.Bool.{true, false}
+use mathlib.Core.Bool.{Bool, true, false}
 use mathlib.Core.List.{List, [], _∷_, _++_}
 use Prim.Native.Nat.{ℕ, _*_}
 use native.Mathlib.Omega.{arith}
@@ -24,10 +24,10 @@ use Rattle.record.specs.Reading.{CutRecord, ListedSizes, ReadRecord}
 
 -- the answers that refuse
 abbrev pub noHead : ℕ → Head
-noHead number = record { refusal = number; width = 0; height = 0; connectivity = 0 }
+noHead number = record { refusal = number; width = 0; height = 0; greatest = 0; connectivity = 0 }
 
 abbrev pub noSizes : ℕ → SizeHead
-noSizes number = record { refusal = number; width = 0; height = 0; connectivity = 0; nodes = 0; darkest = 0; held = 0 }
+noSizes number = record { refusal = number; width = 0; height = 0; greatest = 0; connectivity = 0; nodes = 0; darkest = 0; held = 0 }
 
 -- ---- up to 24
 
@@ -40,12 +40,12 @@ pub data Stopped : Parsed → List ℕ → List ℕ → ℕ → Type 0 where
   unchanged : {work : List ℕ} {number : ℕ} → Stopped (early number) work work number
   zeroed : {work work′ : List ℕ} {number pixels : ℕ} → work′ ≡ workAfter true pixels work → Stopped (late number pixels) work work′ number
 
-pub stopped : {M : ℕ} {P : Parsed} (t : Found) {work w₁ w₂ : List ℕ} {number : ℕ} → FoundIs M P work w₁ t → NoTree t → number ≡ foundNumber t
+pub stopped : {P : Parsed} (t : Found) {work w₁ w₂ : List ℕ} {number : ℕ} → FoundIs P work w₁ t → NoTree t → number ≡ foundNumber t
     → w₂ ≡ clearedBy t w₁
     → Stopped P work w₂ number
 stopped (Early m) x other e c = rw (← (x .answer), e, c, x .space) unchanged
 stopped (Late m pixels) x other e c = rw (← (x .answer), e) (zeroed (cleared (x .space .1) c))
-stopped (Tree wd ht k count) x other e c =
+stopped (Tree new wd ht M k count) x other e c =
     let m : (_≡_ {A = ℕ} 2 0) ⊎ (_≡_ {A = ℕ} 2 1) = other in
     absurd (⊎-elim (λ z. omega arith) (λ z. omega arith) m)
 
@@ -66,7 +66,7 @@ sizes-stopped counted lost (zeroed c) = record { answer = refl; count-table = re
 
 -- ---- the operations' own conditions, on a plate
 
-module _ {P : Parsed} {k wd ht : ℕ} {f : List ℕ} (is : P ≡ plate k wd ht f) {work w₁ : List ℕ} (fr : Frame (wd * ht) work w₁) where
+module _ {P : Parsed} {new : Bool} {k wd ht M : ℕ} {f : List ℕ} (is : P ≡ plate new k wd ht M f) {work w₁ : List ℕ} (fr : Frame (wd * ht) work w₁) where
   -- reading: 5
   pub read-refused : {r : ℕ} {out w₂ : List ℕ} → r ≡ outRefusal (wd * ht) (length out) 0 → (r ≡ 0 → ⊥)
       → w₂ ≡ replicate (8 * (wd * ht)) 0 ++ drop (8 * (wd * ht)) w₁ → ReadRecord P out out work w₂ (noHead r)

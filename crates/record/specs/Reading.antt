@@ -15,60 +15,62 @@ use Rattle.record.specs.declared.SizeHead.{SizeHead}
 
 -- ---- for all three: the refusal up to 24, then the operation's own conditions on the plate
 
-abbrev pub parsedRefusal : Parsed → (ℕ → ℕ → ℕ) → ℕ
+abbrev pub parsedRefusal : Parsed → ((k w h M : ℕ) → List ℕ → ℕ) → ℕ
 parsedRefusal (early number) own = number
 parsedRefusal (late number pixels) own = number
-parsedRefusal (plate k w h f) own = own w h
+parsedRefusal (plate new k w h M f) own = own k w h M f
 
 -- the work space: untouched by 6 and ahead of it, else zeroed
 abbrev pub parsedWork : Parsed → List ℕ → List ℕ
 parsedWork (early number) work = work
 parsedWork (late number pixels) work = workAfter true pixels work
-parsedWork (plate k w h f) work = workAfter true (w * h) work
+parsedWork (plate new k w h M f) work = workAfter true (w * h) work
 
--- the sizes and the connectivity of the plate; zeros on a refusal
+-- the sizes, the greatest grey and the connectivity of the plate; zeros on a refusal
 abbrev pub headOf : ℕ → Parsed → Head
-headOf refusal (early number) = record { refusal = refusal; width = 0; height = 0; connectivity = 0 }
-headOf refusal (late number pixels) = record { refusal = refusal; width = 0; height = 0; connectivity = 0 }
-headOf refusal (plate k w h f) =
-    record { refusal = refusal; width = pick (eqb refusal 0) w 0; height = pick (eqb refusal 0) h 0; connectivity = pick (eqb refusal 0) k 0 }
+headOf refusal (early number) = record { refusal = refusal; width = 0; height = 0; greatest = 0; connectivity = 0 }
+headOf refusal (late number pixels) = record { refusal = refusal; width = 0; height = 0; greatest = 0; connectivity = 0 }
+headOf refusal (plate new k w h M f) =
+    let met = eqb refusal 0 in
+    record { refusal = refusal; width = pick met w 0; height = pick met h 0; greatest = pick met M 0; connectivity = pick met k 0 }
 
 -- an output: what the plate's operation answers, where nothing is refused
-abbrev pub parsedOut : ℕ → Parsed → (ℕ → ℕ → ℕ → List ℕ → List ℕ) → List ℕ → List ℕ
+abbrev pub parsedOut : ℕ → Parsed → ((k w h M : ℕ) → List ℕ → List ℕ) → List ℕ → List ℕ
 parsedOut refusal (early number) answer out = out
 parsedOut refusal (late number pixels) answer out = out
-parsedOut refusal (plate k w h f) answer out = outAfter refusal (answer k w h f) out
+parsedOut refusal (plate new k w h M f) answer out = outAfter refusal (answer k w h M f) out
 
 -- ---- reading: 5
 
 abbrev pub readRefusal : Parsed → ℕ → ℕ
-readRefusal p out = parsedRefusal p λ w h. outRefusal (w * h) out 0
+readRefusal p out = parsedRefusal p λ k w h M f. outRefusal (w * h) out 0
 
 abbrev pub readOut : Parsed → List ℕ → List ℕ
-readOut p out = parsedOut (readRefusal p (length out)) p (λ k w h f. f) out
+readOut p out = parsedOut (readRefusal p (length out)) p (λ k w h M f. f) out
 
 -- ---- cutting: 4, 5
 
 abbrev pub cutRefusal : Parsed → ℕ → ℕ → ℕ
-cutRefusal p limit out = parsedRefusal p λ w h. limitRefusal (w * h) limit (outRefusal (w * h) out 0)
+cutRefusal p limit out = parsedRefusal p λ k w h M f. limitRefusal (w * h) limit (outRefusal (w * h) out 0)
 
 abbrev pub cutOut : Parsed → ℕ → List ℕ → List ℕ
-cutOut p limit out = parsedOut (cutRefusal p limit (length out)) p (λ k w h f. cut k w h limit f) out
+cutOut p limit out = parsedOut (cutRefusal p limit (length out)) p (λ k w h M f. cut k w h limit f) out
 
 -- ---- size list: 5
 
 abbrev pub sizeRefusal : Parsed → ℕ → ℕ → ℕ
-sizeRefusal p countPlaces lossPlaces = parsedRefusal p λ w h. tablesRefusal (w * h) countPlaces lossPlaces 0
+sizeRefusal p countPlaces lossPlaces = parsedRefusal p λ k w h M f. tablesRefusal (w * h) countPlaces lossPlaces 0
 
 abbrev pub sizeHeadOf : ℕ → Parsed → SizeHead
-sizeHeadOf refusal (early number) = record { refusal = refusal; width = 0; height = 0; connectivity = 0; nodes = 0; darkest = 0; held = 0 }
-sizeHeadOf refusal (late number pixels) = record { refusal = refusal; width = 0; height = 0; connectivity = 0; nodes = 0; darkest = 0; held = 0 }
-sizeHeadOf refusal (plate k w h f) =
+sizeHeadOf refusal (early number) = record { refusal = refusal; width = 0; height = 0; greatest = 0; connectivity = 0; nodes = 0; darkest = 0; held = 0 }
+sizeHeadOf refusal (late number pixels) = record { refusal = refusal; width = 0; height = 0; greatest = 0; connectivity = 0; nodes = 0; darkest = 0; held = 0 }
+sizeHeadOf refusal (plate new k w h M f) =
     let met = eqb refusal 0 in
     record {
       refusal = refusal;
       width = pick met w 0;
       height = pick met h 0;
+      greatest = pick met M 0;
       connectivity = pick met k 0;
       nodes = pick met (length (nodesOf k w f)) 0;
       darkest = pick met (darkest f) 0;
@@ -76,10 +78,10 @@ sizeHeadOf refusal (plate k w h f) =
     }
 
 abbrev pub countsOut : Parsed → ℕ → List ℕ → List ℕ
-countsOut p lossPlaces out = parsedOut (sizeRefusal p (length out) lossPlaces) p counts out
+countsOut p lossPlaces out = parsedOut (sizeRefusal p (length out) lossPlaces) p (λ k w h M f. counts k w h f) out
 
 abbrev pub lossesOut : Parsed → ℕ → List ℕ → List ℕ
-lossesOut p countPlaces out = parsedOut (sizeRefusal p countPlaces (length out)) p losses out
+lossesOut p countPlaces out = parsedOut (sizeRefusal p countPlaces (length out)) p (λ k w h M f. losses k w h f) out
 
 -- ---- the contracts: the answer, the outputs and the work space. p: what reading finds up to 24
 

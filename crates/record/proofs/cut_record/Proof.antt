@@ -7,8 +7,6 @@ use mathlib.Core.List.{List}
 use Prim.Native.Nat.{ℕ}
 use denote.Ref.{now}
 use lib.ListN.{length}
-use Rattle.meaning.specs.Plate.{greatestGrey}
-use Rattle.theory_connectivity.proofs.Sizes.{byte-range}
 use Rattle.record_parse.specs.Parse.{readOf}
 use Rattle.record_tree.proofs.Finding.{TreeFound, tree-found, found-clearable}
 use Rattle.record.proofs.Refused.{Stopped, stopped, cut-stopped, cut-refused}
@@ -18,10 +16,10 @@ use Rattle.record.proofs.Done.{cut-done, cut-fits, cut-writable, found-
 abbrev start : tie.After-read-tree → tie.Start
 start c = c .before .before .before .before .before
 
--- the width, height and connectivity of the record's plate, and the number of its nodes; its tree stands in the work space
+-- the form of the record, the width, height, greatest grey and connectivity of its plate, and the number of its nodes; its tree stands in the work space
 there : (c : tie.After-known-told) → let t = c .before .before .before .before .before in let g = c .before .f .given .0 in let s = start t .args in
-    TreeFound greatestGrey (readOf greatestGrey (now (s .bytes)) (length (now (s .work)))) (g .0) (g .1 .0) (g .1 .1 .0) (now (s .work))
-    (t .read-tree .last .1 .1 .0) (g .1 .1 .1 .0)
+    TreeFound (readOf (now (s .bytes)) (length (now (s .work)))) (g .0) (g .1 .0) (g .1 .1 .0) (g .1 .1 .1 .0) (g .1 .1 .1 .1 .0) (now (s .work))
+    (t .read-tree .last .1 .0) (g .1 .1 .1 .1 .1 .0)
 there c = tree-found (c .before .before .before .before .before .read-tree .ensures) (c .before .f .given .1)
 
 -- the record is refused up to 24
@@ -29,7 +27,7 @@ abbrev asked : tie.After-give-up → tie.After-read-tree
 asked c = c .before .before .before .before .before
 
 refused : (c : tie.After-give-up) → let t = asked c in let s = start t .args in
-    Stopped (readOf greatestGrey (now (s .bytes)) (length (now (s .work)))) (now (s .work)) (c .give-up .last .1 .0) (c .give-up .result)
+    Stopped (readOf (now (s .bytes)) (length (now (s .work)))) (now (s .work)) (c .give-up .last .1 .0) (c .give-up .result)
 refused c =
     let t = asked c .read-tree in
     stopped (t .result) (t .ensures) (c .before .before .match .keys2) (c .give-up .ensures .0) (c .give-up .ensures .1)
@@ -45,7 +43,7 @@ abbrev valued : tie.After-deliver → tie.After-cut-values
 valued c = c .before .before .before .before .before
 
 read-tree-requires : tie.Need-read-tree-requires
-read-tree-requires c κs = byte-range
+read-tree-requires c κs = search needs
 
 enum-known-f : tie.Need-enum-known-f
 enum-known-f c = search needs
@@ -110,7 +108,6 @@ deliver-requires c κs =
     let b = e .before .before in
     let s = start (b .before .before .before .before .before) .args in
     cut-writable (there b) (v .before .before .shape-of .ensures) (s .limit) (lent b) (e .before .cut-refusal .ensures) (e .if1 .left) (v .cut-values .ensures)
-    (omega arith)
 
 same-length-3 : tie.Need-same-length-3
 same-length-3 c = search needs

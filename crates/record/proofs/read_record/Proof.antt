@@ -5,8 +5,6 @@ use Rattle.record.proofs.read_record.Tie as tie
 use native.Mathlib.Omega.{arith}
 use denote.Ref.{now}
 use lib.ListN.{length}
-use Rattle.meaning.specs.Plate.{greatestGrey}
-use Rattle.theory_connectivity.proofs.Sizes.{byte-range}
 use Rattle.record_parse.specs.Parse.{readOf}
 use Rattle.record_tree.proofs.Finding.{TreeFound, tree-found, found-clearable}
 use Rattle.record.proofs.Refused.{Stopped, stopped, read-stopped, read-refused}
@@ -16,10 +14,10 @@ use Rattle.record.proofs.Done.{tree-few, tree-room, read-greys, read-do
 abbrev start : tie.After-read-tree → tie.Start
 start c = c .before .before .before .before .before
 
--- the width, height and connectivity of the record's plate, and the number of its nodes; its tree stands in the work space
+-- the form of the record, the width, height, greatest grey and connectivity of its plate, and the number of its nodes; its tree stands in the work space
 there : (c : tie.After-known-told) → let t = c .before .before .before .before .before in let g = c .before .f .given .0 in let s = start t .args in
-    TreeFound greatestGrey (readOf greatestGrey (now (s .bytes)) (length (now (s .work)))) (g .0) (g .1 .0) (g .1 .1 .0) (now (s .work))
-    (t .read-tree .last .1 .1 .0) (g .1 .1 .1 .0)
+    TreeFound (readOf (now (s .bytes)) (length (now (s .work)))) (g .0) (g .1 .0) (g .1 .1 .0) (g .1 .1 .1 .0) (g .1 .1 .1 .1 .0) (now (s .work))
+    (t .read-tree .last .1 .0) (g .1 .1 .1 .1 .1 .0)
 there c = tree-found (c .before .before .before .before .before .read-tree .ensures) (c .before .f .given .1)
 
 -- the record is refused up to 24
@@ -27,7 +25,7 @@ abbrev asked : tie.After-give-up → tie.After-read-tree
 asked c = c .before .before .before .before .before
 
 refused : (c : tie.After-give-up) → let t = asked c in let s = start t .args in
-    Stopped (readOf greatestGrey (now (s .bytes)) (length (now (s .work)))) (now (s .work)) (c .give-up .last .1 .0) (c .give-up .result)
+    Stopped (readOf (now (s .bytes)) (length (now (s .work)))) (now (s .work)) (c .give-up .last .1 .0) (c .give-up .result)
 refused c =
     let t = asked c .read-tree in
     stopped (t .result) (t .ensures) (c .before .before .match .keys2) (c .give-up .ensures .0) (c .give-up .ensures .1)
@@ -40,7 +38,7 @@ abbrev fits : tie.After-write-greys → tie.Else1
 fits c = c .before .before .before
 
 read-tree-requires : tie.Need-read-tree-requires
-read-tree-requires c κs = byte-range
+read-tree-requires c κs = search needs
 
 enum-known-f : tie.Need-enum-known-f
 enum-known-f c = search needs
@@ -89,7 +87,7 @@ returns-2 c =
 write-greys-requires : tie.Need-write-greys-requires
 write-greys-requires c κs =
     let e = c .before .before in
-    read-greys (there (e .before .before)) (e .before .out-refusal .ensures) (e .if1 .left) (omega arith)
+    read-greys (there (e .before .before)) (e .before .out-refusal .ensures) (e .if1 .left)
 
 clear-requires-2 : tie.Need-clear-requires-2
 clear-requires-2 c κs = tree-room (there (fits (c .before .before .before) .before .before))

@@ -5,8 +5,6 @@ use Rattle.record.proofs.size_list.Tie as tie
 use native.Mathlib.Omega.{arith}
 use denote.Ref.{now}
 use lib.ListN.{length}
-use Rattle.meaning.specs.Plate.{greatestGrey}
-use Rattle.theory_connectivity.proofs.Sizes.{byte-range}
 use Rattle.record_parse.specs.Parse.{readOf}
 use Rattle.record_tree.proofs.Finding.{TreeFound, tree-found, found-clearable}
 use Rattle.record.proofs.Refused.{Stopped, stopped, sizes-stopped, sizes-refused}
@@ -16,10 +14,10 @@ use Rattle.record.proofs.Done.{found-stands, nodes-few, sizes-done, siz
 abbrev start : tie.After-read-tree → tie.Start
 start c = c .before .before .before .before .before .before
 
--- the width, height and connectivity of the record's plate, and the number of its nodes; its tree stands in the work space
+-- the form of the record, the width, height, greatest grey and connectivity of its plate, and the number of its nodes; its tree stands in the work space
 there : (c : tie.After-known-told) → let t = c .before .before .before .before .before in let g = c .before .f .given .0 in let s = start t .args in
-    TreeFound greatestGrey (readOf greatestGrey (now (s .bytes)) (length (now (s .work)))) (g .0) (g .1 .0) (g .1 .1 .0) (now (s .work))
-    (t .read-tree .last .1 .1 .0) (g .1 .1 .1 .0)
+    TreeFound (readOf (now (s .bytes)) (length (now (s .work)))) (g .0) (g .1 .0) (g .1 .1 .0) (g .1 .1 .1 .0) (g .1 .1 .1 .1 .0) (now (s .work))
+    (t .read-tree .last .1 .0) (g .1 .1 .1 .1 .1 .0)
 there c = tree-found (c .before .before .before .before .before .read-tree .ensures) (c .before .f .given .1)
 
 -- the record is refused up to 24
@@ -27,7 +25,7 @@ abbrev asked : tie.After-give-up → tie.After-read-tree
 asked c = c .before .before .before .before .before
 
 refused : (c : tie.After-give-up) → let t = asked c in let s = start t .args in
-    Stopped (readOf greatestGrey (now (s .bytes)) (length (now (s .work)))) (now (s .work)) (c .give-up .last .1 .0) (c .give-up .result)
+    Stopped (readOf (now (s .bytes)) (length (now (s .work)))) (now (s .work)) (c .give-up .last .1 .0) (c .give-up .result)
 refused c =
     let t = asked c .read-tree in
     stopped (t .result) (t .ensures) (c .before .before .match .keys2) (c .give-up .ensures .0) (c .give-up .ensures .1)
@@ -43,7 +41,7 @@ abbrev darkened : tie.After-list-sizes → tie.After-darkest-of
 darkened c = c .before .before .before .before
 
 read-tree-requires : tie.Need-read-tree-requires
-read-tree-requires c κs = byte-range
+read-tree-requires c κs = search needs
 
 enum-known-f : tie.Need-enum-known-f
 enum-known-f c = search needs
@@ -111,8 +109,8 @@ clear-requires-2 c κs =
     let e = fits d in
     sizes-room (there (e .before .before)) (shaped d .shape-of .ensures) (e .before .tables-refusal .ensures) (e .if1 .left) (l .list-sizes .ensures)
 
-cast-t20 : tie.Need-cast-t20
-cast-t20 c =
+cast-t21 : tie.Need-cast-t21
+cast-t21 c =
     let d = darkened (c .before .before .before .before .before .before .before .before .before .before) in
     omega (arith, nodes-few (there (fits d .before .before)) (shaped d .shape-of .ensures))
 
@@ -155,7 +153,7 @@ size-list-spec =
     darkest-of-requires
     list-sizes-requires
     clear-requires-2
-    cast-t20
+    cast-t21
     same-length-3
     same-length-4
     same-length-5

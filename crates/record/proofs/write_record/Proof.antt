@@ -8,7 +8,6 @@ use lib.ListN.{length}
 use native.Mathlib.Omega.{arith}
 use Rattle.maxtree_columns.proofs.Tree.{tree-here}
 use Rattle.plate_refusals.proofs.Refusals.{Listable, out-none, tree-none}
-use Rattle.plate_tree.proofs.Building.{bytes-fit}
 use Rattle.record.proofs.Wrote.{wrote-done, wrote-ready, wrote-refused, wrote-room, wrote-short}
 
 -- ---- what stands at each place
@@ -17,10 +16,10 @@ start c = c .before .before .before .before
 
 -- nothing is refused ahead of the work
 listable : (c : tie.Else1) → let s = start (c .before) .args in
-    Listable (s .connectivity) (s .width) (s .height) (now (s .image)) (length (now (s .work)))
+    Listable (s .connectivity) (s .width) (s .height) (s .greatest) (now (s .image)) (length (now (s .work)))
 listable c =
     let s = start (c .before) .args in
-    tree-none (s .connectivity) (s .width) (s .height) (now (s .image)) (length (now (s .work)))
+    tree-none (s .connectivity) (s .width) (s .height) (s .greatest) (now (s .image)) (length (now (s .work)))
     (c .before .tree-refusal .ensures) (c .if1 .left)
 
 -- the tree is made, and the record measured
@@ -44,7 +43,8 @@ returns c =
     let t = c .before in
     let s = start (t .before) .args in
     rw (c .refused-written .ensures)
-    (wrote-refused (s .connectivity) (s .width) (s .height) (now (s .image)) (now (s .out)) (now (s .work)) (t .before .tree-refusal .ensures) (t .if1 .taken))
+    (wrote-refused (s .connectivity) (s .width) (s .height) (s .greatest) (now (s .image)) (now (s .out)) (now (s .work))
+    (t .before .tree-refusal .ensures) (t .if1 .taken))
 
 shape-of-requires : tie.Need-shape-of-requires
 shape-of-requires c κs = search needs
@@ -52,10 +52,8 @@ shape-of-requires c κs = search needs
 plate-tree-requires : tie.Need-plate-tree-requires
 plate-tree-requires c κs =
     let e = c .before .before in
-    let k = e .before .before .before .before in
     let s = start (e .before) .args in
     wrote-ready (now (s .image)) (now (s .work)) (listable e) (c .before .shape-of .ensures)
-    (bytes-fit (now (s .image)) (λ p. omega (arith, k .shared-slice-known .given p)))
 
 measure-requires : tie.Need-measure-requires
 measure-requires c κs = tree-here (c .before .before .before .plate-tree .ensures .tree)
