@@ -3,32 +3,32 @@ use mathlib.Core.Path.{_≡_, sym, _∙_}
 use mathlib.Core.List.{List}
 use Prim.Native.Nat.{ℕ, _-_, _*_, _≤_}
 use lib.ListN.{length}
-use borrow.Author.Tests.{eq-eqb, le-leb, le-ltb}
+use borrow.Author.Tests.{le-leb, le-ltb}
 use Rattle.meaning.specs.Answers.{limitRefusal, outRefusal, plateRefusal, tablesRefusal, workRefusal}
 use Rattle.plate_refusals.proofs.Refusals.{Chain, Filterable, chained, cut-chain, decided, limit-none, out-none, passed}
-use Rattle.plate_refusals.proofs.Refusals.{plate-chain, plate-later, plate-none, plate-taken, tables-chain, tables-none, work-chain, work-none}
+use Rattle.plate_refusals.proofs.Refusals.{plate-chain, plate-later, plate-none, plate-passes, plate-taken, tables-chain, tables-none, work-chain, work-none}
 use Rattle.record_write_cut_list.specs.WriteCutList.{earlyRefusal}
 
 -- what is not refused
-pub record Fits (k w h limit : ℕ) (f : List ℕ) (out counted lost work : ℕ) : Type 0 where
-  pub sizes : Filterable k w h limit f out work
+pub record Fits (k w h M limit : ℕ) (f : List ℕ) (out counted lost work : ℕ) : Type 0 where
+  pub sizes : Filterable k w h M limit f out work
   pub counts-fit : w * h - 1 ≤ counted
   pub losses-fit : w * h - 1 ≤ lost
 
-module _ (k w h limit : ℕ) (f : List ℕ) (out counted lost work : ℕ) where
+module _ (k w h M limit : ℕ) (f : List ℕ) (out counted lost work : ℕ) where
   abbrev early : ℕ → ℕ
-  early = earlyRefusal k w h limit f out counted lost work
+  early = earlyRefusal k w h M limit f out counted lost work
 
   pub early-chain : Chain early
   unfolding earlyRefusal
   early-chain =
-      chained (plate-chain k w h f)
+      chained (plate-chain k w h M f)
       (chained (cut-chain (w * h) limit out) (chained (tables-chain (w * h) counted lost) (work-chain (w * h) work)))
 
-  pub early-fits : early 0 ≡ 0 → Fits k w h limit f out counted lost work
+  pub early-fits : early 0 ≡ 0 → Fits k w h M limit f out counted lost work
   unfolding earlyRefusal
   early-fits e =
-      let (taken, e₁) = plate-none k w h f _ e in
+      let (taken, e₁) = plate-none k w h M f _ e in
       let (limited, e₂) = limit-none (w * h) limit _ e₁ in
       let (room, e₃) = out-none (w * h) out _ e₂ in
       let (tables, e₄) = tables-none (w * h) counted lost _ e₃ in
@@ -40,15 +40,12 @@ module _ (k w h limit : ℕ) (f : List ℕ) (out counted lost work : ℕ) where
       }
 
   -- where none is met the later condition decides
-  pub early-later : (later : ℕ) → Fits k w h limit f out counted lost work → early later ≡ later
+  pub early-later : (later : ℕ) → Fits k w h M limit f out counted lost work → early later ≡ later
   unfolding earlyRefusal
   early-later later x =
       let s = x .sizes in
-      let t = s .taken in
-      rw (
-        t .kind,
-        t .grid,
-        eq-eqb (length f) (w * h) (t .long),
+      plate-passes (s .taken) (limitRefusal (w * h) limit (outRefusal (w * h) out (tablesRefusal (w * h) counted lost (workRefusal (w * h) work later))))
+      ∙ rw (
         le-leb 1 limit (s .limit-low),
         le-leb limit (w * h) (s .limit-high),
         le-ltb out (w * h) (s .room),
@@ -68,15 +65,15 @@ module _ (k w h limit : ℕ) (f : List ℕ) (out counted lost work : ℕ) where
   abbrev cutOf : ℕ → ℕ
   cutOf n = limitRefusal n limit (outRefusal n out (tablesOf n))
 
-  module _ {p : ℕ} (e : p ≡ plateRefusal k w h f 0) where
+  module _ {p : ℕ} (e : p ≡ plateRefusal k w h M f 0) where
     pub by-plate : (p ≡ 0 → ⊥) → p ≡ early 0
     unfolding earlyRefusal
-    by-plate x = decided (plate-chain k w h f) e x (cutOf (w * h))
+    by-plate x = decided (plate-chain k w h M f) e x (cutOf (w * h))
 
     module _ (z : p ≡ 0) {q : ℕ} (e₁ : q ≡ limitRefusal (length f) limit (outRefusal (length f) out 0)) where
       after-plate : early 0 ≡ cutOf (length f)
       unfolding earlyRefusal
-      after-plate = plate-later (plate-taken k w h f e z) cutOf
+      after-plate = plate-later (plate-taken k w h M f e z) cutOf
 
       pub by-cut : (q ≡ 0 → ⊥) → q ≡ early 0
       by-cut x = decided (cut-chain (length f) limit out) e₁ x (tablesOf (length f)) ∙ sym after-plate

@@ -31,16 +31,17 @@ fn early_refusal(
     connectivity: u32,
     width: u32,
     height: u32,
+    greatest: u32,
     limit: u32,
-    image: &[u8],
+    image: &[u16],
     out: usize,
     counts: usize,
     losses: usize,
     work: usize,
 ) -> u32
-    ensures { λ r. ⌜ r ≡ earlyRefusal connectivity width height limit (now (image .entry)) out counts losses work 0 ⌝ }
+    ensures { λ r. ⌜ r ≡ earlyRefusal connectivity width height greatest limit (now (image .entry)) out counts losses work 0 ⌝ }
 {
-    let plate = plate_refusals::plate_refusal(connectivity, width, height, image);
+    let plate = plate_refusals::plate_refusal(connectivity, width, height, greatest, image);
     if plate != 0 {
         return plate;
     }
@@ -58,18 +59,19 @@ fn early_refusal(
 
 // Writes the record of a plate, cuts it at a limit, and lists its sizes. A record that needs more bytes than were lent is refused by 5 after the work.
 pub fn write_cut_list(
-    image: &[u8],
+    image: &[u16],
     width: u32,
     height: u32,
+    greatest: u32,
     connectivity: u32,
     limit: u32,
     bytes: &mut [u8],
-    out: &mut [u8],
+    out: &mut [u16],
     counts: &mut [u32],
     losses: &mut [u64],
     work: &mut [u32],
 ) -> CutListed
-    ensures { λ r. ⌜ WrittenCutListed connectivity width height limit (now (image .entry)) (now (bytes .entry)) (now (bytes .exit))
+    ensures { λ r. ⌜ WrittenCutListed connectivity width height greatest limit (now (image .entry)) (now (bytes .entry)) (now (bytes .exit))
         (now (out .entry)) (now (out .exit)) (now (counts .entry)) (now (counts .exit)) (now (losses .entry)) (now (losses .exit))
         (now (work .entry)) (now (work .exit)) r ⌝ }
 {
@@ -77,6 +79,7 @@ pub fn write_cut_list(
         connectivity,
         width,
         height,
+        greatest,
         limit,
         image,
         out.len(),
@@ -87,7 +90,7 @@ pub fn write_cut_list(
     if early != 0 {
         return refused(early);
     }
-    let written = record::write_record(image, width, height, connectivity, bytes, work);
+    let written = record::write_record(image, width, height, greatest, connectivity, bytes, work);
     if written.refusal != 0 {
         return refused(written.refusal);
     }

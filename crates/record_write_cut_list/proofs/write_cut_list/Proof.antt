@@ -35,7 +35,7 @@ refused-requires : tie.Need-refused-requires
 refused-requires c κs = search needs
 
 returns : tie.Need-returns
-returns c = rw (c .refused .ensures) (listed-refused _ _ _ _ _ _ _ _ _ _ (c .before .before .early-refusal .ensures) (c .before .if1 .taken))
+returns c = rw (c .refused .ensures) (listed-refused _ _ _ _ _ _ _ _ _ _ _ (c .before .before .early-refusal .ensures) (c .before .if1 .taken))
 
 write-record-requires : tie.Need-write-record-requires
 write-record-requires c κs = search needs
@@ -54,7 +54,7 @@ returns-2 c =
     let written = c .before .before .before .before .before .before .before in
     let e = early written in
     rw (c .refused2 .ensures)
-    (listed-short _ _ _ _ _ _ _ _ _ _ (e .before .early-refusal .ensures) (e .if1 .left) (written .write-record .ensures) (c .before .if2 .taken))
+    (listed-short _ _ _ _ _ _ _ _ _ _ _ (e .before .early-refusal .ensures) (e .if1 .left) (written .write-record .ensures) (c .before .if2 .taken))
 
 slice-reshare-prefix-cut-record : tie.Need-slice-reshare-prefix-cut-record
 slice-reshare-prefix-cut-record c = written-within (writing c .write-record .ensures)
@@ -95,7 +95,7 @@ returns-3 c =
     let to-cut = passed cut in
     let written = writing to-cut in
     let e = early written in
-    listed-done _ _ _ _ _ _ _ _ _ _ (e .before .early-refusal .ensures) (e .if1 .left) (written .write-record .ensures) (to-cut .if2 .left)
+    listed-done _ _ _ _ _ _ _ _ _ _ _ (e .before .early-refusal .ensures) (e .if1 .left) (written .write-record .ensures) (to-cut .if2 .left)
     (cut .cut-record .ensures) (listing c .size-list .ensures)
 
 pub write-cut-list-spec : {M : Type 1} → statement M
