@@ -1,10 +1,15 @@
 -- What is promised of an ink percentage.
 use mathlib.Core.Path.{_≡_}
 use Prim.Native.Nat.{ℕ}
+use lib.Dec.{eqb}
+use Rattle.meaning.specs.Sets.{pick}
 use Rattle.meaning.specs.Ink.{inkOf, Nearest}
-use Rattle.meaning.specs.Plate.{greatestGrey}
+use Rattle.meaning.specs.Answers.{inkRefusal}
+use Rattle.ink.specs.declared.Ink.{Ink}
 
--- r is the ink percentage of the grey g: the quotient that the rule of SPECIFICATION 8 computes, and the whole number nearest to (255 − g) × 100 / 255
-pub record Percentage (g r : ℕ) : Type 0 where
-  pub value : r ≡ inkOf greatestGrey g
-  pub nearest : Nearest greatestGrey g r
+-- r answers for the grey g, where M is the greatest: the refusal; the percentage that the rule of SPECIFICATION 8 computes, and 0 where it is refused;
+-- and that it is the whole number nearest to (M − g) × 100 / M, halves up
+pub record Percentage (M g : ℕ) (r : Ink) : Type 0 where
+  pub number : r .refusal ≡ inkRefusal M g
+  pub value : r .percentage ≡ pick (eqb (inkRefusal M g) 0) (inkOf M g) 0
+  pub nearest : inkRefusal M g ≡ 0 → Nearest M g (r .percentage)

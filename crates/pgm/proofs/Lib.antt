@@ -1,5 +1,6 @@
 -- The laws behind reading a plate file, and its examples.
-pub mod Sizes
-pub mod Copy
+pub mod Raster
+pub mod Readable
+pub mod Writing
 pub mod Reading
 pub mod Examples

@@ -35,7 +35,7 @@ fn fill(file: &mut [u8; SIZE], filler: u8) {
 }
 
 fn show(file: &[u8; SIZE]) {
-    let mut out = [b'.'; 1];
+    let mut out = [b'.' as u16; 1];
     let r = pgm::read_pgm(file, &mut out);
     io::print_decimal(STDOUT_FILENO, r.refusal as u64);
     io::write_all(STDOUT_FILENO, b" ");
@@ -43,7 +43,9 @@ fn show(file: &[u8; SIZE]) {
     io::write_all(STDOUT_FILENO, b" ");
     io::print_decimal(STDOUT_FILENO, r.height as u64);
     io::write_all(STDOUT_FILENO, b" ");
-    io::write_all(STDOUT_FILENO, &out);
+    // the greatest grey is 255, so the pixel is a byte
+    let pixel = [(out[0] % 256) as u8];
+    io::write_all(STDOUT_FILENO, &pixel);
     io::write_all(STDOUT_FILENO, b"\n");
 }
 

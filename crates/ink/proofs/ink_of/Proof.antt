@@ -1,7 +1,6 @@
 -- `ink::ink_of` meets its contract: what is rounded is the formula of the ink percentage.
 use borrow.Author.Needs.{needs}
 use Rattle.meaning.specs.Ink.{inkOf}
-use Rattle.ink.proofs.Rounding.{ink-most}
 use Rattle.ink.proofs.ink_of.Statement.{statement}
 use Rattle.ink.proofs.ink_of.Tie as tie
 
@@ -16,7 +15,7 @@ rounded-requires c κs = search needs
 
 returns : tie.Need-returns
 unfolding inkOf
-returns c = let s = c .before in (c .rounded .ensures, rw (c .rounded .ensures) (ink-most (s .args .greatest) (s .args .grey) (s .pre .0)))
+returns c = c .rounded .ensures
 
 pub ink-of-spec : {M : Type 1} → statement M
 ink-of-spec = tie.close (tie.spec sub-rounded mul-rounded rounded-requires returns)
