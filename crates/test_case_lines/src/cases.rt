@@ -11,9 +11,9 @@ struct Number {
     next: usize,
 }
 
-// Some bytes of one value, and the place after them.
+// Some numbers of one value, and the place after them.
 struct Run {
-    value: u8,
+    value: u16,
     count: u32,
     next: usize,
 }
@@ -57,38 +57,38 @@ fn number_at(line: &[u8], at: usize) -> Number
     }
 }
 
-// The byte at `at`, and how often it stands.
+// The number at `at`, modulo 2^16, and how often it stands.
 fn run_at(line: &[u8], at: usize) -> Run
     ensures { λ r. ⌜ Behind at (length (now (line .entry))) (r .next) ⌝ }
 {
     let v = number_at(line, at);
     if !v.star {
         return Run {
-            value: (v.value % 256) as u8,
+            value: (v.value % 65536) as u16,
             count: 1,
             next: v.next,
         };
     }
     let n = number_at(line, v.next);
     Run {
-        value: (v.value % 256) as u8,
+        value: (v.value % 65536) as u16,
         count: n.value,
         next: n.next,
     }
 }
 
-// Puts `count` bytes from `from` on, as far as there is room, and gives the place after them.
-fn put_run(bytes: &mut [u8], from: usize, value: u8, count: u32) -> usize
-    requires { ⌜ from ≤ length (now bytes) ⌝ }
-    ensures { λ r. ⌜ r ≤ length (now (bytes .entry)) ⌝ }
+// Puts `count` greys from `from` on, as far as there is room, and gives the place after them.
+fn put_run(greys: &mut [u16], from: usize, value: u16, count: u32) -> usize
+    requires { ⌜ from ≤ length (now greys) ⌝ }
+    ensures { λ r. ⌜ r ≤ length (now (greys .entry)) ⌝ }
 {
     let mut i = from;
     let mut left = count;
     while 0 < left {
-        if bytes.len() <= i {
+        if greys.len() <= i {
             return i;
         }
-        bytes[i] = value;
+        greys[i] = value;
         i += 1;
         left -= 1;
     }
@@ -142,20 +142,23 @@ pub fn field(line: &[u8], name: &[u8]) -> u32 {
     number.value
 }
 
-// Width, height and connectivity of a plate.
+// Width, height, greatest grey and connectivity of a plate.
 pub struct Shape {
     pub width: u32,
     pub height: u32,
+    pub greatest: u32,
     pub connectivity: u32,
 }
 
 pub fn shape_of(line: &[u8]) -> Shape {
     let width = field(line, b"width");
     let height = field(line, b"height");
+    let greatest = field(line, b"greatest");
     let connectivity = field(line, b"connectivity");
     Shape {
         width: width,
         height: height,
+        greatest: greatest,
         connectivity: connectivity,
     }
 }
@@ -168,9 +171,9 @@ pub fn places(line: &[u8], name: &[u8], most: usize) -> usize
     if most < wanted { most } else { wanted }
 }
 
-// Puts the bytes of the field `name`, and gives their number.
-pub fn list(line: &[u8], name: &[u8], bytes: &mut [u8]) -> usize
-    ensures { λ r. ⌜ r ≤ length (now (bytes .entry)) ⌝ }
+// Puts the greys of the field `name`, and gives their number.
+pub fn list_greys(line: &[u8], name: &[u8], greys: &mut [u16]) -> usize
+    ensures { λ r. ⌜ r ≤ length (now (greys .entry)) ⌝ }
 {
     let mut n: usize = 0;
     let mut at = field_at(line, name);
@@ -179,10 +182,38 @@ pub fn list(line: &[u8], name: &[u8], bytes: &mut [u8]) -> usize
             return n;
         }
         let run = run_at(line, at);
-        n = put_run(bytes, n, run.value, run.count);
+        n = put_run(greys, n, run.value, run.count);
         at = run.next;
     }
     n
+}
+
+fn low_byte(n: u16) -> u8 {
+    (n % 256) as u8
+}
+
+// Puts the numbers, modulo 2^8, as far as there is room, and gives their number.
+fn put_bytes(numbers: &[u16], bytes: &mut [u8]) -> usize
+    ensures { λ r. ⌜ r ≤ length (now (bytes .entry)) ⌝ }
+{
+    let mut i: usize = 0;
+    while i < numbers.len() {
+        if bytes.len() <= i {
+            return i;
+        }
+        bytes[i] = low_byte(numbers[i]);
+        i += 1;
+    }
+    i
+}
+
+// Puts the bytes of the field `name`, at most 69000, and gives their number.
+pub fn list_bytes(line: &[u8], name: &[u8], bytes: &mut [u8]) -> usize
+    ensures { λ r. ⌜ r ≤ length (now (bytes .entry)) ⌝ }
+{
+    let mut numbers = [0u16; 69000];
+    let n = list_greys(line, name, &mut numbers);
+    put_bytes(&numbers[..n], bytes)
 }
 
 // The place of the first byte `stop` from `at` on, or the end.

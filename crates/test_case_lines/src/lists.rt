@@ -48,6 +48,10 @@ fn byte(n: u8) -> u64 {
     n as u64
 }
 
+fn grey(n: u16) -> u64 {
+    n as u64
+}
+
 fn word(n: u32) -> u64 {
     n as u64
 }
@@ -57,6 +61,16 @@ pub fn print_bytes(list: &[u8]) {
     let mut i: usize = 0;
     while i < list.len() {
         run = one_more(run, byte(list[i]));
+        i += 1;
+    }
+    print_run(run);
+}
+
+pub fn print_greys(list: &[u16]) {
+    let mut run = Run { value: 0, count: 0 };
+    let mut i: usize = 0;
+    while i < list.len() {
+        run = one_more(run, grey(list[i]));
         i += 1;
     }
     print_run(run);

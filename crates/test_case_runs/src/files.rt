@@ -4,19 +4,21 @@ use test_case_lines::cases::is_named;
 use test_case_lines::cases::places;
 use test_case_lines::lists::print_bar;
 use test_case_lines::lists::print_bytes;
+use test_case_lines::lists::print_greys;
 use test_case_lines::lists::print_number;
 
-fn read(bytes: &[u8], out: &mut [u8]) {
+fn read(bytes: &[u8], out: &mut [u16]) {
     let read = pgm::read_pgm(bytes, out);
     print_number(read.refusal as u64);
     print_number(read.width as u64);
     print_number(read.height as u64);
+    print_number(read.greatest as u64);
     print_bar();
-    print_bytes(out);
+    print_greys(out);
 }
 
 fn file(line: &[u8], bytes: &[u8]) {
-    let mut out = [170u8; 200];
+    let mut out = [43690u16; 200];
     let n = places(line, b"out", 200);
     read(bytes, &mut out[..n]);
 }
@@ -53,16 +55,22 @@ fn text(bytes: &[u8]) {
     print_bytes(&text[..size]);
 }
 
-fn ink(bytes: &[u8]) {
+fn print_ink(answer: ink::Ink) {
+    print_number(answer.refusal as u64);
+    print_number(answer.percentage as u64);
+}
+
+fn ink(line: &[u8], greys: &[u16]) {
+    let greatest = field(line, b"greatest");
     let mut i: usize = 0;
-    while i < bytes.len() {
-        print_number(ink::ink_percentage(bytes[i]) as u64);
+    while i < greys.len() {
+        print_ink(ink::ink_percentage(greys[i], greatest));
         i += 1;
     }
 }
 
 // Runs the case if it is one of these, and gives whether it is.
-pub fn run(line: &[u8], bytes: &[u8]) -> bool {
+pub fn run(line: &[u8], bytes: &[u8], greys: &[u16]) -> bool {
     if is_named(line, b"file") {
         file(line, bytes);
         return true;
@@ -76,7 +84,7 @@ pub fn run(line: &[u8], bytes: &[u8]) -> bool {
         return true;
     }
     if is_named(line, b"ink") {
-        ink(bytes);
+        ink(line, greys);
         return true;
     }
     false

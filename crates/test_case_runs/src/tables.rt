@@ -5,6 +5,7 @@ use test_case_lines::cases::places;
 use test_case_lines::cases::shape_of;
 use test_case_lines::lists::print_bar;
 use test_case_lines::lists::print_bytes;
+use test_case_lines::lists::print_greys;
 use test_case_lines::lists::print_longs;
 use test_case_lines::lists::print_number;
 use test_case_lines::lists::print_words;
@@ -22,7 +23,7 @@ fn print_columns(levels: &[u32], parents: &[u32], areas: &[u32], anchors: &[u32]
 
 fn list_nodes(
     line: &[u8],
-    bytes: &[u8],
+    greys: &[u16],
     levels: &mut [u32],
     parents: &mut [u32],
     areas: &mut [u32],
@@ -31,9 +32,10 @@ fn list_nodes(
 ) {
     let s = shape_of(line);
     let list = plate_filter::node_list(
-        bytes,
+        greys,
         s.width,
         s.height,
+        s.greatest,
         s.connectivity,
         levels,
         parents,
@@ -46,7 +48,7 @@ fn list_nodes(
     print_columns(levels, parents, areas, anchors);
 }
 
-fn nodes(line: &[u8], bytes: &[u8], work: &mut [u32]) {
+fn nodes(line: &[u8], greys: &[u16], work: &mut [u32]) {
     let mut levels = [9u32; 200];
     let mut parents = [9u32; 200];
     let mut areas = [9u32; 200];
@@ -57,7 +59,7 @@ fn nodes(line: &[u8], bytes: &[u8], work: &mut [u32]) {
     let d = places(line, b"anchors", 200);
     list_nodes(
         line,
-        bytes,
+        greys,
         &mut levels[..a],
         &mut parents[..b],
         &mut areas[..c],
@@ -66,16 +68,25 @@ fn nodes(line: &[u8], bytes: &[u8], work: &mut [u32]) {
     );
 }
 
-fn entries(line: &[u8], bytes: &[u8], work: &mut [u32]) {
+fn entries(line: &[u8], greys: &[u16], work: &mut [u32]) {
     let s = shape_of(line);
     let at = field(line, b"at") as usize;
-    test_entries::list_plate(bytes, s.width, s.height, s.connectivity, work, at);
+    test_entries::list_plate(
+        greys,
+        s.width,
+        s.height,
+        s.greatest,
+        s.connectivity,
+        work,
+        at,
+    );
 }
 
 fn print_size_head(head: record::SizeHead) {
     print_number(head.refusal as u64);
     print_number(head.width as u64);
     print_number(head.height as u64);
+    print_number(head.greatest as u64);
     print_number(head.connectivity as u64);
     print_number(head.nodes as u64);
     print_number(head.darkest as u64);
@@ -110,19 +121,19 @@ fn print_joint(joint: record_write_cut_list::CutListed) {
     print_number(joint.held);
 }
 
-fn print_outputs(record: &[u8], out: &[u8], counts: &[u32], losses: &[u64]) {
+fn print_outputs(record: &[u8], out: &[u16], counts: &[u32], losses: &[u64]) {
     print_bar();
     print_bytes(record);
     print_bar();
-    print_bytes(out);
+    print_greys(out);
     print_tables(counts, losses);
 }
 
 fn join(
     line: &[u8],
-    bytes: &[u8],
+    greys: &[u16],
     record: &mut [u8],
-    out: &mut [u8],
+    out: &mut [u16],
     counts: &mut [u32],
     losses: &mut [u64],
     work: &mut [u32],
@@ -130,9 +141,10 @@ fn join(
     let s = shape_of(line);
     let limit = field(line, b"limit");
     let joint = record_write_cut_list::write_cut_list(
-        bytes,
+        greys,
         s.width,
         s.height,
+        s.greatest,
         s.connectivity,
         limit,
         record,
@@ -145,9 +157,9 @@ fn join(
     print_outputs(record, out, counts, losses);
 }
 
-fn joint(line: &[u8], bytes: &[u8], work: &mut [u32]) {
+fn joint(line: &[u8], greys: &[u16], work: &mut [u32]) {
     let mut record = [170u8; 1000];
-    let mut out = [170u8; 1000];
+    let mut out = [43690u16; 1000];
     let mut counts = [9u32; 200];
     let mut losses = [9u64; 200];
     let a = places(line, b"record", 1000);
@@ -156,7 +168,7 @@ fn joint(line: &[u8], bytes: &[u8], work: &mut [u32]) {
     let d = places(line, b"losses", 200);
     join(
         line,
-        bytes,
+        greys,
         &mut record[..a],
         &mut out[..b],
         &mut counts[..c],
@@ -166,13 +178,13 @@ fn joint(line: &[u8], bytes: &[u8], work: &mut [u32]) {
 }
 
 // Runs the case if it is one of these, and gives whether it is.
-fn choose(line: &[u8], bytes: &[u8], work: &mut [u32]) -> bool {
+fn choose(line: &[u8], bytes: &[u8], greys: &[u16], work: &mut [u32]) -> bool {
     if is_named(line, b"nodes") {
-        nodes(line, bytes, work);
+        nodes(line, greys, work);
         return true;
     }
     if is_named(line, b"entries") {
-        entries(line, bytes, work);
+        entries(line, greys, work);
         return true;
     }
     if is_named(line, b"sizes") {
@@ -180,14 +192,14 @@ fn choose(line: &[u8], bytes: &[u8], work: &mut [u32]) -> bool {
         return true;
     }
     if is_named(line, b"joint") {
-        joint(line, bytes, work);
+        joint(line, greys, work);
         return true;
     }
     false
 }
 
-pub fn run(line: &[u8], bytes: &[u8], work: &mut [u32]) -> bool {
-    if choose(line, bytes, work) {
+pub fn run(line: &[u8], bytes: &[u8], greys: &[u16], work: &mut [u32]) -> bool {
+    if choose(line, bytes, greys, work) {
         print_bar();
         print_words(work);
         return true;

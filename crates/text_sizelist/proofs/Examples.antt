@@ -24,11 +24,16 @@ cases =
     ∷ case "P5 4 4 255 \0\0\0\0\0\0\u{5}\0\0\u{3}\0\0\0\0\0\0" "size 4 4 4 3\n1 2 8\nheld 0\nrest 0 100\n"
     -- one grey
     ∷ case "P5 3 1 255 ÿÿÿ" "size 3 1 4 1\nheld 0\nrest 255 0\n"
+    -- other greatest greys: the ink goes by them; two bytes a pixel from 256 on
+    ∷ case "P5 1 1 200 \u{1}" "size 1 1 4 1\nheld 0\nrest 1 100\n"
+    ∷ case "P5 2 1 1000 \u{1}ô\0\n" "size 2 1 4 2\nheld 490\nrest 10 99\n"
     -- refusals of the plate file
     ∷ case "P6 1 1 255 a" "refused 10\n"
     ∷ case "P5 1 1" "refused 11\n"
     ∷ case "P5 0 1 255 a" "refused 2\n"
-    ∷ case "P5 1 1 7 a" "refused 12\n"
+    ∷ case "P5 1 1 0 a" "refused 12\n"
+    ∷ case "P5 1 1 65536 ab" "refused 12\n"
+    ∷ case "P5 1 1 7 a" "refused 28\n"
     ∷ case "P5 2 1 255 a" "refused 14\n"
     ∷ case "P5 1 1 255 ab" "refused 15\n"
     -- a plate of 1,025 pixels whose raster is short

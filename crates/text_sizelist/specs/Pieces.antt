@@ -1,21 +1,19 @@
 -- What the functions that make the text are given and leave.
 use mathlib.Core.Path.{_≡_}
-use mathlib.Core.Bool.{true}
 use mathlib.Core.List.{List}
-use Prim.Native.Nat.{ℕ, _*_, _≤_}
+use Prim.Native.Nat.{ℕ, _≤_}
 use lib.ListN.{length}
 use Rattle.meaning.specs.Answers.{over}
-use Rattle.meaning.specs.Plate.{gridFits}
-use Rattle.text_sizelist.specs.Text.{mostPixels}
+use Rattle.meaning.specs.Plate.{Plate}
+use Rattle.text_sizelist.specs.Text.{four, mostPixels}
 
 -- the bytes that the longest text needs, and more
 abbrev pub textPlaces : ℕ
 textPlaces = 65536
 
--- a plate of no more pixels, and a text that has the places
-pub record SmallPlate (w h : ℕ) (f text : List ℕ) : Type 0 where
-  pub sizes : gridFits w h ≡ true
-  pub long : length f ≡ w * h
+-- an accepted plate of no more pixels, and a text that has the places
+pub record SmallPlate (w h M : ℕ) (f text : List ℕ) : Type 0 where
+  pub plate : Plate four w h M f
   pub small : length f ≤ mostPixels
   pub room : textPlaces ≤ length text
 

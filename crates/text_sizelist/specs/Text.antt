@@ -6,9 +6,8 @@ use lib.ListN.{length}
 use Rattle.meaning.specs.Cut.{counts, darkest, held, losses}
 use Rattle.meaning.specs.Ink.{inkOf}
 use Rattle.meaning.specs.Nodes.{nodesOf}
-use Rattle.meaning.specs.Plate.{greatestGrey}
 use Rattle.meaning.specs.Sets.{gather, nth, pick}
-use Rattle.pgm.specs.File.{rasterOf, readPgm}
+use Rattle.pgm.specs.File.{plateOf, readPgm}
 use Rattle.pgm.specs.Text.{bytes}
 use Rattle.pgm.specs.declared.PgmRead.{PgmRead}
 use Rattle.text_lines.specs.Lines.{decimal, line}
@@ -47,24 +46,24 @@ unfoldable pub heldLine : ℕ → List ℕ
 unfolding bytes line
 heldLine held = line (bytes "held") (held ∷ [])
 
--- "rest", darkest grey, its ink percentage
-unfoldable pub restLine : ℕ → List ℕ
+-- "rest", darkest grey, its ink percentage; M: the plate's greatest grey
+unfoldable pub restLine : ℕ → ℕ → List ℕ
 unfolding bytes line inkOf
-restLine grey = line (bytes "rest") (grey ∷ inkOf greatestGrey grey ∷ [])
+restLine M grey = line (bytes "rest") (grey ∷ inkOf M grey ∷ [])
 
--- a plate of width w and height h: one line for each area from 1 to pixels - 1, rising, between the first line and the last two
-unfoldable pub plateText : ℕ → ℕ → List ℕ → List ℕ
+-- a plate of width w, height h and greatest grey M: one line for each area from 1 to pixels - 1, rising, between the first line and the last two
+unfoldable pub plateText : ℕ → ℕ → ℕ → List ℕ → List ℕ
 unfolding headLine areaLine heldLine restLine gather nodesOf counts losses held darkest
-plateText w h f =
+plateText w h M f =
     ((headLine w h four (length (nodesOf four w f)) ++ gather (length f - 1) (sizeLine (counts four w h f) (losses four w h f)))
     ++ heldLine (held four w h f))
-    ++ restLine (darkest f)
+    ++ restLine M (darkest f)
 
--- what reading the plate file answered, and the raster: its refusal, or the plate
+-- what reading the plate file answered, and the plate: its refusal, or the plate's text
 abbrev pub answerText : PgmRead → List ℕ → List ℕ
-answerText read f = pick (eqb (read .refusal) 0) (plateText (read .width) (read .height) f) (refusedText (read .refusal))
+answerText read f = pick (eqb (read .refusal) 0) (plateText (read .width) (read .height) (read .greatest) f) (refusedText (read .refusal))
 
 -- the text of a file. An input that is too long is refused before any parsing; a plate of more pixels is refusal 5 of reading it
 unfoldable pub sizeText : List ℕ → List ℕ
-unfolding readPgm rasterOf plateText refusedText
-sizeText file = pick (ltb inputBytes (length file)) (refusedText 6) (answerText (readPgm file mostPixels) (rasterOf file))
+unfolding readPgm plateOf plateText refusedText
+sizeText file = pick (ltb inputBytes (length file)) (refusedText 6) (answerText (readPgm file mostPixels) (plateOf file))

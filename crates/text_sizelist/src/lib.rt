@@ -1,7 +1,9 @@
 // The text that the program sizelist prints for a plate file.
 ghost use Prim.Native.Nat.{_+_, _*_, _≤_, _<_};
 ghost use lib.ListN.{length};
-ghost use Rattle.meaning.specs.Plate.{greatestGrey};
+ghost use mathlib.Core.Path.{_≡_};
+ghost use mathlib.Core.Bool.{true};
+ghost use Rattle.meaning.specs.Plate.{greatestFits};
 ghost use Rattle.meaning.specs.Sets.{gather};
 ghost use Rattle.text_lines.specs.Lines.{PutText};
 ghost use Rattle.text_sizelist.specs.Text.{refusedText, headLine, sizeLine, heldLine, restLine, plateText, sizeText};
@@ -75,28 +77,28 @@ fn put_held(text: &mut [u8], at: usize, held: u64) -> usize
     text_lines::put_end(text, end)
 }
 
-// Puts the last line: the darkest grey and its ink percentage.
-fn put_rest(text: &mut [u8], at: usize, darkest: u32) -> usize
+// Puts the last line: the darkest grey and its ink percentage, by the plate's greatest grey.
+fn put_rest(text: &mut [u8], at: usize, darkest: u32, greatest: u32) -> usize
     requires { ⌜ at + 47 ≤ length (now text) ⌝ }
-    requires { ⌜ darkest ≤ greatestGrey ⌝ }
-    ensures { λ r. ⌜ PutText (now (text .entry)) at (restLine darkest) (now (text .exit)) r ⌝ }
+    requires { ⌜ (greatestFits greatest ≡ true) × (darkest ≤ greatest) ⌝ }
+    ensures { λ r. ⌜ PutText (now (text .entry)) at (restLine greatest darkest) (now (text .exit)) r ⌝ }
 {
     let first = text_lines::put_word(text, at, b"rest");
     let second = text_lines::put_field(text, first, darkest as u64);
-    let ink = ink::ink_percentage(darkest as u8);
-    let end = text_lines::put_field(text, second, ink as u64);
+    let ink = ink::ink_percentage(darkest as u16, greatest);
+    let end = text_lines::put_field(text, second, ink.percentage as u64);
     text_lines::put_end(text, end)
 }
 
-// Puts the text of a plate: its record is written, and the record's sizes are listed. A record of 1,024 pixels has at most 4,099 fields, each of
+// Puts the text of a plate: its record is written, and the record's sizes are listed. A record of 1,024 pixels has at most 4,102 fields, each of
 // at most five bytes.
-fn plate_text(image: &[u8], width: u32, height: u32, text: &mut [u8]) -> usize
-    requires { ⌜ SmallPlate width height (now image) (now text) ⌝ }
-    ensures { λ r. ⌜ PutText (now (text .entry)) 0 (plateText width height (now (image .entry))) (now (text .exit)) r ⌝ }
+fn plate_text(image: &[u16], width: u32, height: u32, greatest: u32, text: &mut [u8]) -> usize
+    requires { ⌜ SmallPlate width height greatest (now image) (now text) ⌝ }
+    ensures { λ r. ⌜ PutText (now (text .entry)) 0 (plateText width height greatest (now (image .entry))) (now (text .exit)) r ⌝ }
 {
-    let mut bytes = [0u8; 20495];
+    let mut bytes = [0u8; 20510];
     let mut work = [0u32; 8192];
-    let written = record::write_record(image, width, height, 4, &mut bytes, &mut work);
+    let written = record::write_record(image, width, height, greatest, 4, &mut bytes, &mut work);
     let size = written.length;
     let mut counts = [0u32; 1023];
     let mut losses = [0u64; 1023];
@@ -104,7 +106,7 @@ fn plate_text(image: &[u8], width: u32, height: u32, text: &mut [u8]) -> usize
     let sizes = put_head(text, list.width, list.height, list.connectivity, list.nodes);
     let held = put_sizes(text, sizes, &counts, &losses, image.len() - 1);
     let rest = put_held(text, held, list.held);
-    put_rest(text, rest, list.darkest)
+    put_rest(text, rest, list.darkest, list.greatest)
 }
 
 // Puts what sizelist prints for a file from the first place of the text on, and gives its length.
@@ -114,11 +116,17 @@ pub fn size_text(file: &[u8], text: &mut [u8; 65536]) -> usize
     if 4096 < file.len() {
         return put_refused(text, 6);
     }
-    let mut plate = [0u8; 1024];
+    let mut plate = [0u16; 1024];
     let read = pgm::read_pgm(file, &mut plate);
     if read.refusal != 0 {
         return put_refused(text, read.refusal);
     }
     let pixels = (read.width * read.height) as usize;
-    plate_text(&plate[..pixels], read.width, read.height, text)
+    plate_text(
+        &plate[..pixels],
+        read.width,
+        read.height,
+        read.greatest,
+        text,
+    )
 }

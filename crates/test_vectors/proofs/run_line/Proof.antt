@@ -8,14 +8,14 @@ use Rattle.test_vectors.proofs.run_line.Tie as tie
 print-name-requires : tie.Need-print-name-requires
 print-name-requires c κs = tt
 
-slice-aggregate-list : tie.Need-slice-aggregate-list
-slice-aggregate-list c = search needs
+slice-aggregate-list-bytes : tie.Need-slice-aggregate-list-bytes
+slice-aggregate-list-bytes c = search needs
 
-slice-aggregate-list-2 : tie.Need-slice-aggregate-list-2
-slice-aggregate-list-2 c = search needs
+slice-aggregate-list-bytes-2 : tie.Need-slice-aggregate-list-bytes-2
+slice-aggregate-list-bytes-2 c = search needs
 
-list-requires : tie.Need-list-requires
-list-requires c κs = tt
+list-bytes-requires : tie.Need-list-bytes-requires
+list-bytes-requires c κs = tt
 
 array-share-prefix-bytes : tie.Need-array-share-prefix-bytes
 array-share-prefix-bytes c = search needs
@@ -40,9 +40,9 @@ run-line-spec =
     tie.close
     (tie.spec
     print-name-requires
-    slice-aggregate-list
-    slice-aggregate-list-2
-    list-requires
+    slice-aggregate-list-bytes
+    slice-aggregate-list-bytes-2
+    list-bytes-requires
     array-share-prefix-bytes
     slice-aggregate-run-bytes
     run-bytes-requires

@@ -1,13 +1,12 @@
 -- `text_sizelist::plate_text` meets its contract: the record is the plate's, so what is listed is what the definition says.
-use mathlib.Core.Path.{_≡_, refl, sym}
+use mathlib.Core.Path.{_≡_, sym}
 use native.Mathlib.Omega.{arith}
 use borrow.Author.Needs.{needs}
 use denote.Ref.{now}
 use lib.ListN.{length, take}
 use lib.Seq.{length-take-le}
-use Rattle.meaning.specs.Plate.{Plate, connectivityFits, greatestGrey}
+use Rattle.meaning.specs.Plate.{Plate}
 use Rattle.meaning.specs.Record.{recordOf}
-use Rattle.theory_connectivity.proofs.Sizes.{byte-range}
 use Rattle.theorems.proofs.Plates.{plate-some}
 use Rattle.text_lines.proofs.Pieces.{put-put}
 use Rattle.text_sizelist.specs.Text.{four}
@@ -24,27 +23,24 @@ slice-aggregate-write-record-2 c = search needs
 write-record-requires : tie.Need-write-record-requires
 write-record-requires c κs = search needs
 
--- the image is a plate: its bytes are greys
-plate-of : (c : tie.After-shared-slice-known) → let a = c .before .args in Plate four (a .width) (a .height) greatestGrey (now (a .image))
-unfolding connectivityFits
-plate-of c =
-    let p = c .before .pre in
-    record { kind = refl; sizes = p .sizes; range = byte-range; long = p .long; greys = λ i l. omega (arith, c .shared-slice-known .given i) }
+-- the image is an accepted plate
+plate-of : (c : tie.After-shared-slice-known) → let a = c .before .args in Plate four (a .width) (a .height) (a .greatest) (now (a .image))
+plate-of c = c .before .pre .plate
 
 -- its record, as writing it answered
 written : (c : tie.After-write-record) → let a = c .before .before .before .before .before .args in
-    c .write-record .result .length ≡ length (recordOf four (a .width) (a .height) (now (a .image)))
+    c .write-record .result .length ≡ length (recordOf four (a .width) (a .height) (a .greatest) (now (a .image)))
 written c =
     let k = c .before .before .before .before in
     let p = k .before .pre in
-    written-length (plate-of k) (record-short (plate-of k) (p .small)) (omega (arith, p .long, p .small)) (c .write-record .ensures)
+    written-length (plate-of k) (record-short (plate-of k) (p .small)) (omega (arith, p .plate .long, p .small)) (c .write-record .ensures)
 
 bytes-are : (c : tie.After-write-record) → let a = c .before .before .before .before .before .args in
-    take (c .write-record .result .length) (c .write-record .last .1 .1 .1 .1 .0) ≡ recordOf four (a .width) (a .height) (now (a .image))
+    take (c .write-record .result .length) (c .write-record .last .1 .1 .1 .1 .1 .0) ≡ recordOf four (a .width) (a .height) (a .greatest) (now (a .image))
 bytes-are c =
     let k = c .before .before .before .before in
     let p = k .before .pre in
-    written-bytes (plate-of k) (record-short (plate-of k) (p .small)) (omega (arith, p .long, p .small)) (c .write-record .ensures)
+    written-bytes (plate-of k) (record-short (plate-of k) (p .small)) (omega (arith, p .plate .long, p .small)) (c .write-record .ensures)
 
 array-share-prefix-bytes : tie.Need-array-share-prefix-bytes
 array-share-prefix-bytes c =
@@ -80,9 +76,6 @@ sub-put-sizes c =
     let l = c .before .before .before .before .before .before .before .before .before .before in
     plate-some (plate-of (l .before .before .before .before .before .before .before .before .before .before .before))
 
-put-sizes-requires : tie.Need-put-sizes-requires
-put-sizes-requires c κs = search needs
-
 -- what was put and listed before the line of the grey held
 abbrev put : tie.After-put-held → tie.After-put-sizes
 put c = c .before .before .before .before
@@ -95,6 +88,12 @@ listed c = c .before .before .before .before .before
 
 abbrev known : tie.After-size-list → tie.After-shared-slice-known
 known c = c .before .before .before .before .before .before .before .before .before .before .before
+
+put-sizes-requires : tie.Need-put-sizes-requires
+put-sizes-requires c κs =
+    let h = c .before .before .before .before .before in
+    let p = known (listed h) .before .pre in
+    (omega (arith, h .put-head .ensures .1, p .small, p .room), search needs)
 
 put-held-requires : tie.Need-put-held-requires
 put-held-requires c κs =
@@ -109,10 +108,20 @@ put-rest-requires c κs =
     let l = listed (first s) in
     let k = known l in
     let p = k .before .pre in (
-      omega (arith, e .put-held .ensures .1, s .put-sizes .ensures .1, first s .put-head .ensures .1, p .small, p .room),
-      listed-low (plate-of k) (bytes-are (l .before .before .before .before .before .before .before)) (omega (arith, p .long, p .small))
-          (omega (arith, p .long, p .small))
-          (omega (arith, p .long, p .small, slice-aggregate-size-list-4 (l .before)))
+      omega (
+        arith,
+        c .before .before .text3 .given,
+        e .before .before .before .text2 .given,
+        s .before .before .before .before .before .text .given,
+        e .put-held .ensures .1,
+        s .put-sizes .ensures .1,
+        first s .put-head .ensures .1,
+        p .small,
+        p .room,
+      ),
+      listed-low (plate-of k) (bytes-are (l .before .before .before .before .before .before .before)) (omega (arith, p .plate .long, p .small))
+          (omega (arith, p .plate .long, p .small))
+          (omega (arith, p .plate .long, p .small, slice-aggregate-size-list-4 (l .before)))
           (l .size-list .ensures),
     )
 
@@ -128,9 +137,9 @@ returns c =
     let k = known l in
     let p = k .before .pre in
     let lines = put-put (put-put (h .put-head .ensures .0) (s .put-sizes .ensures .0)) (e .put-held .ensures .0) in
-    rw (listed-text (plate-of k) (bytes-are (l .before .before .before .before .before .before .before)) (omega (arith, p .long, p .small))
-    (omega (arith, p .long, p .small))
-    (omega (arith, p .long, p .small, slice-aggregate-size-list-4 (l .before)))
+    rw (listed-text (plate-of k) (bytes-are (l .before .before .before .before .before .before .before)) (omega (arith, p .plate .long, p .small))
+    (omega (arith, p .plate .long, p .small))
+    (omega (arith, p .plate .long, p .small, slice-aggregate-size-list-4 (l .before)))
     (l .size-list .ensures))
     at (put-put lines (c .before .before .put-rest .ensures))
 

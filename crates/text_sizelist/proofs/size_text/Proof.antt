@@ -1,15 +1,16 @@
 -- `text_sizelist::size_text` meets its contract: too long, refused by reading, or the text of the plate that was read.
-use mathlib.Core.Path.{_≡_, sym, ap, _∙_}
+use mathlib.Core.Path.{_≡_, refl, sym, ap, _∙_}
 use Prim.Native.Nat.{_*_}
 use native.Mathlib.Omega.{arith}
 use borrow.Author.Needs.{needs}
 use denote.Ref.{now}
 use lib.ListN.{length, replicate, take}
 use lib.Seq.{length-take-le}
-use Rattle.pgm.specs.File.{rasterOf}
-use Rattle.pgm.proofs.Sizes.{Sized}
+use Rattle.meaning.specs.Plate.{connectivityFits}
+use Rattle.pgm.specs.File.{plateOf}
+use Rattle.pgm.proofs.Readable.{Readable}
 use Rattle.text_sizelist.specs.Text.{mostPixels, plateText}
-use Rattle.text_sizelist.proofs.Files.{made, raster-is, read-is, text-long, text-plate, text-refused}
+use Rattle.text_sizelist.proofs.Files.{made, plate-is, read-is, text-long, text-plate, text-refused}
 use Rattle.text_sizelist.proofs.size_text.Statement.{statement}
 use Rattle.text_sizelist.proofs.size_text.Tie as tie
 
@@ -37,19 +38,19 @@ returns-2 c =
 
 -- what was read, where nothing is refused
 read : (c : tie.Else2) → let p = c .before .before .before in
-    Sized (p .read-pgm .result .width) (p .read-pgm .result .height)
-    (length (rasterOf (now (p .before .before .before .before .args .file)))) mostPixels
+    Readable (p .read-pgm .result .width) (p .read-pgm .result .height) (p .read-pgm .result .greatest)
+    (plateOf (now (p .before .before .before .before .args .file))) mostPixels
 read c =
     let p = c .before .before .before in
     read-is (now (p .before .before .before .before .args .file)) (replicate mostPixels 0) (p .read-pgm .last .1 .0) (p .read-pgm .result)
     (p .read-pgm .ensures .0) (c .if2 .left)
     (p .read-pgm .ensures .1)
 
-raster : (c : tie.Else2) → let p = c .before .before .before in
-    take (p .read-pgm .result .width * p .read-pgm .result .height) (p .read-pgm .last .1 .0) ≡ rasterOf (now (p .before .before .before .before .args .file))
-raster c =
+plate : (c : tie.Else2) → let p = c .before .before .before in
+    take (p .read-pgm .result .width * p .read-pgm .result .height) (p .read-pgm .last .1 .0) ≡ plateOf (now (p .before .before .before .before .args .file))
+plate c =
     let p = c .before .before .before in
-    raster-is (now (p .before .before .before .before .args .file)) (replicate mostPixels 0) (p .read-pgm .last .1 .0) (p .read-pgm .result)
+    plate-is (now (p .before .before .before .before .args .file)) (replicate mostPixels 0) (p .read-pgm .last .1 .0) (p .read-pgm .result)
     (p .read-pgm .ensures .0) (c .if2 .left)
     (p .read-pgm .ensures .1)
 
@@ -68,13 +69,13 @@ slice-aggregate-plate-text : tie.Need-slice-aggregate-plate-text
 slice-aggregate-plate-text c = sym (length-take-le _ _ (array-share-prefix-plate (c .before)))
 
 plate-text-requires : tie.Need-plate-text-requires
+unfolding connectivityFits
 plate-text-requires c κs =
     let b = c .before .before .before in
     let r = read b in
     record {
-      sizes = r .sizes;
-      long = ap length (raster b) ∙ r .long;
-      small = omega (arith, ap length (raster b), r .long, r .fits);
+      plate = rw (plate b) (record { kind = refl; sizes = r .sizes; range = r .range; long = r .long; greys = r .greys });
+      small = omega (arith, ap length (plate b), r .long, r .fits);
       room = search needs;
     }
 
@@ -83,7 +84,7 @@ returns-3 c =
     let b = c .before .before .before .before in
     let p = b .before .before .before in
     made (c .plate-text .ensures)
-    (ap (plateText (p .read-pgm .result .width) (p .read-pgm .result .height)) (raster b)
+    (ap (plateText (p .read-pgm .result .width) (p .read-pgm .result .height) (p .read-pgm .result .greatest)) (plate b)
     ∙ text-plate (now (p .before .before .before .before .args .file)) (p .read-pgm .result) (p .before .before .if1 .left) (p .read-pgm .ensures .0)
     (b .if2 .left))
 

@@ -1,4 +1,4 @@
--- `cases::put_run` stays inside the bytes, and ends.
+-- `cases::put_run` stays inside the greys, and ends.
 use Prim.Native.Nat.{_≤_}
 use lib.ListN.{length, length-set}
 use mathlib.Core.Path.{_≡_}
@@ -7,10 +7,10 @@ use Rattle.test_case_lines.proofs.cases.put_run.Statement.{statement}
 use Rattle.test_case_lines.proofs.cases.put_run.Tie as tie
 
 abbrev Inv-loop : tie.InvT-loop
-Inv-loop bytes₀ from value count i₀ left₀ bytes i left = (length bytes ≡ length bytes₀) × (i ≤ length bytes₀)
+Inv-loop greys₀ from value count i₀ left₀ greys i left = (length greys ≡ length greys₀) × (i ≤ length greys₀)
 
 abbrev μ-loop : tie.MeasureT-loop
-μ-loop bytes₀ from value count i₀ left₀ bytes i left = left
+μ-loop greys₀ from value count i₀ left₀ greys i left = left
 
 loop-holds : tie.Need-loop-holds Inv-loop μ-loop
 loop-holds c = omega arith
@@ -21,8 +21,11 @@ same-length c = omega arith
 returns : tie.Need-returns Inv-loop μ-loop
 returns c = omega arith
 
-slice-write-bytes : tie.Need-slice-write-bytes Inv-loop μ-loop
-slice-write-bytes c = omega arith
+mul-greys : tie.Need-mul-greys Inv-loop μ-loop
+mul-greys c = omega arith
+
+slice-write-greys : tie.Need-slice-write-greys Inv-loop μ-loop
+slice-write-greys c = omega arith
 
 add-i : tie.Need-add-i Inv-loop μ-loop
 add-i c = omega arith
@@ -51,7 +54,8 @@ put-run-spec =
     loop-holds
     same-length
     returns
-    slice-write-bytes
+    mul-greys
+    slice-write-greys
     add-i
     sub-left
     loop-less

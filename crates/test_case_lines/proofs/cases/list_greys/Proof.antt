@@ -1,16 +1,16 @@
--- `cases::list` is safe and ends: each run moves on.
+-- `cases::list_greys` is safe and ends: each run moves on.
 use Prim.Native.Nat.{_-_, _≤_}
 use lib.ListN.{length}
 use mathlib.Core.Path.{_≡_}
 use native.Mathlib.Omega.{arith}
-use Rattle.test_case_lines.proofs.cases.list.Statement.{statement}
-use Rattle.test_case_lines.proofs.cases.list.Tie as tie
+use Rattle.test_case_lines.proofs.cases.list_greys.Statement.{statement}
+use Rattle.test_case_lines.proofs.cases.list_greys.Tie as tie
 
 abbrev Inv-loop : tie.InvT-loop
-Inv-loop line name bytes₀ n₀ at₀ bytes n at = (length bytes ≡ length bytes₀) × (n ≤ length bytes₀)
+Inv-loop line name greys₀ n₀ at₀ greys n at = (length greys ≡ length greys₀) × (n ≤ length greys₀)
 
 abbrev μ-loop : tie.MeasureT-loop
-μ-loop line name bytes₀ n₀ at₀ bytes n at = length line - at
+μ-loop line name greys₀ n₀ at₀ greys n at = length line - at
 
 field-at-requires : tie.Need-field-at-requires Inv-loop μ-loop
 field-at-requires c κs = tt
@@ -50,8 +50,8 @@ same-length-2 c = omega arith
 returns-2 : tie.Need-returns-2 Inv-loop μ-loop
 returns-2 c = omega arith
 
-pub list-spec : {M : Type 1} → statement M
-list-spec =
+pub list-greys-spec : {M : Type 1} → statement M
+list-greys-spec =
     tie.close
     (tie.spec
     Inv-loop

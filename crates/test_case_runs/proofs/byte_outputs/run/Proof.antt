@@ -1,9 +1,9 @@
--- `outputs::run` is safe: the output has the places that it lends.
+-- `byte_outputs::run` is safe: the output has the places that it lends.
 use lib.Seq.{length-take-le}
 use mathlib.Core.Path.{sym}
 use borrow.Author.Needs.{needs}
-use Rattle.test_case_runs.proofs.outputs.run.Statement.{statement}
-use Rattle.test_case_runs.proofs.outputs.run.Tie as tie
+use Rattle.test_case_runs.proofs.byte_outputs.run.Statement.{statement}
+use Rattle.test_case_runs.proofs.byte_outputs.run.Tie as tie
 
 slice-aggregate-places : tie.Need-slice-aggregate-places
 slice-aggregate-places c = search needs

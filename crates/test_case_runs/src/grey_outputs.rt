@@ -1,22 +1,23 @@
-// The cases with one output and a work space.
+// The cases with an output of greys and a work space.
 use test_case_lines::cases::field;
 use test_case_lines::cases::is_named;
 use test_case_lines::cases::places;
 use test_case_lines::cases::shape_of;
 use test_case_lines::lists::print_bar;
-use test_case_lines::lists::print_bytes;
+use test_case_lines::lists::print_greys;
 use test_case_lines::lists::print_number;
 use test_case_lines::lists::print_words;
 
-fn clean(line: &[u8], bytes: &[u8], out: &mut [u8], work: &mut [u32]) {
+fn clean(line: &[u8], greys: &[u16], out: &mut [u16], work: &mut [u32]) {
     let s = shape_of(line);
     let side = field(line, b"side");
     let limit = field(line, b"limit");
     let refusal = plate_filter::clean(
         side,
-        bytes,
+        greys,
         s.width,
         s.height,
+        s.greatest,
         s.connectivity,
         limit,
         out,
@@ -25,12 +26,13 @@ fn clean(line: &[u8], bytes: &[u8], out: &mut [u8], work: &mut [u32]) {
     print_number(refusal as u64);
 }
 
-fn maxima(line: &[u8], bytes: &[u8], out: &mut [u8], work: &mut [u32]) {
+fn maxima(line: &[u8], greys: &[u16], out: &mut [u16], work: &mut [u32]) {
     let s = shape_of(line);
     let refusal = plate_filter::regional_maxima(
-        bytes,
+        greys,
         s.width,
         s.height,
+        s.greatest,
         s.connectivity,
         out,
         work,
@@ -38,64 +40,58 @@ fn maxima(line: &[u8], bytes: &[u8], out: &mut [u8], work: &mut [u32]) {
     print_number(refusal as u64);
 }
 
-fn write(line: &[u8], bytes: &[u8], out: &mut [u8], work: &mut [u32]) {
-    let s = shape_of(line);
-    let written = record::write_record(bytes, s.width, s.height, s.connectivity, out, work);
-    print_number(written.refusal as u64);
-    print_number(written.length as u64);
-}
-
 fn print_head(head: record::Head) {
     print_number(head.refusal as u64);
     print_number(head.width as u64);
     print_number(head.height as u64);
+    print_number(head.greatest as u64);
     print_number(head.connectivity as u64);
 }
 
-fn read(bytes: &[u8], out: &mut [u8], work: &mut [u32]) {
+fn read(bytes: &[u8], out: &mut [u16], work: &mut [u32]) {
     print_head(record::read_record(bytes, out, work));
 }
 
-fn cut(line: &[u8], bytes: &[u8], out: &mut [u8], work: &mut [u32]) {
+fn cut(line: &[u8], bytes: &[u8], out: &mut [u16], work: &mut [u32]) {
     let limit = field(line, b"limit");
     print_head(record::cut_record(bytes, limit, out, work));
 }
 
-// Runs the case, if it is one of these.
-fn choose(line: &[u8], bytes: &[u8], out: &mut [u8], work: &mut [u32]) {
+// Runs the case if it is one of these, and gives whether it is.
+fn choose(line: &[u8], bytes: &[u8], greys: &[u16], out: &mut [u16], work: &mut [u32]) -> bool {
     if is_named(line, b"clean") {
-        clean(line, bytes, out, work);
-        return;
+        clean(line, greys, out, work);
+        return true;
     }
     if is_named(line, b"maxima") {
-        maxima(line, bytes, out, work);
-        return;
-    }
-    if is_named(line, b"write") {
-        write(line, bytes, out, work);
-        return;
+        maxima(line, greys, out, work);
+        return true;
     }
     if is_named(line, b"read") {
         read(bytes, out, work);
-        return;
+        return true;
     }
     if is_named(line, b"cut") {
         cut(line, bytes, out, work);
-        return;
+        return true;
     }
+    false
 }
 
-fn run_lent(line: &[u8], bytes: &[u8], out: &mut [u8], work: &mut [u32]) {
-    choose(line, bytes, out, work);
-    print_bar();
-    print_bytes(out);
-    print_bar();
-    print_words(work);
+fn run_lent(line: &[u8], bytes: &[u8], greys: &[u16], out: &mut [u16], work: &mut [u32]) -> bool {
+    if choose(line, bytes, greys, out, work) {
+        print_bar();
+        print_greys(out);
+        print_bar();
+        print_words(work);
+        return true;
+    }
+    false
 }
 
 // The output is lent with as many places as the case says.
-pub fn run(line: &[u8], bytes: &[u8], work: &mut [u32]) {
-    let mut out = [170u8; 69000];
+pub fn run(line: &[u8], bytes: &[u8], greys: &[u16], work: &mut [u32]) -> bool {
+    let mut out = [43690u16; 69000];
     let n = places(line, b"out", 69000);
-    run_lent(line, bytes, &mut out[..n], work);
+    run_lent(line, bytes, greys, &mut out[..n], work)
 }
