@@ -33,7 +33,12 @@ impl<'a> Case<'a> {
         self.with_list(name, vec![number])
     }
 
-    /// The case with these bytes: a plate, a record or a file.
+    /// The case with these greys: a plate.
+    pub fn painted(self, greys: &[u16]) -> Case<'a> {
+        self.with_list("greys", greys.iter().map(|&grey| grey.into()).collect())
+    }
+
+    /// The case with these bytes: a record or a file.
     pub fn on(self, bytes: &[u8]) -> Case<'a> {
         self.with_list("bytes", bytes.iter().map(|&byte| byte.into()).collect())
     }
@@ -52,6 +57,11 @@ impl<'a> Case<'a> {
     /// The bytes of the case.
     pub fn bytes(&self) -> Vec<u8> {
         self.list("bytes").iter().map(|&byte| byte as u8).collect()
+    }
+
+    /// The greys of the case.
+    pub fn greys(&self) -> Vec<u16> {
+        self.list("greys").iter().map(|&grey| grey as u16).collect()
     }
 
     /// A buffer with as many places as a field says, each holding `value`.
@@ -73,10 +83,10 @@ impl<'a> Case<'a> {
         case
     }
 
-    /// The line that spells the case, the bytes last.
+    /// The line that spells the case, the bytes or greys last.
     pub fn line(&self) -> String {
         let mut fields: Vec<_> = self.fields.iter().collect();
-        fields.sort_by_key(|field| field.0 == "bytes");
+        fields.sort_by_key(|field| ["bytes", "greys"].contains(&field.0));
         let spelled = fields.into_iter();
         let spelled: String = spelled
             .map(|(name, numbers)| format!(" {name}{}", listed(numbers)))

@@ -1,22 +1,28 @@
 //! The cases that `test_vectors` runs: the plates, records and files of which they
 //! are made, written out as lines.
 
+mod chance;
+mod conversion;
 mod damage;
 mod files;
+mod greatest;
 mod joint;
 mod netpbm;
+mod new_form;
 mod plates;
 mod sides;
 mod touch;
 mod trim_edge;
 
+use std::collections::BTreeSet;
+
 use crate::case::Case;
 use crate::cleaning::negative;
 use crate::grid::Grid;
 use crate::nodes::nodes_of;
-use crate::record::record_of;
+use crate::record::{old_record_of, record_of};
 
-/// All cases, a line each.
+/// All cases, a line each; none is there twice.
 pub fn cases_text() -> String {
     let mut cases = Vec::new();
     plates::cases(&mut cases);
@@ -27,7 +33,14 @@ pub fn cases_text() -> String {
     files::cases(&mut cases);
     netpbm::cases(&mut cases);
     trim_edge::cases(&mut cases);
-    cases.iter().map(Case::line).collect()
+    greatest::cases(&mut cases);
+    chance::cases(&mut cases);
+    new_form::cases(&mut cases);
+    conversion::cases(&mut cases);
+    let mut lines: Vec<String> = cases.iter().map(Case::line).collect();
+    let mut seen = BTreeSet::new();
+    lines.retain(|line| seen.insert(line.clone()));
+    lines.concat()
 }
 
 /// Numbers that are no connectivity; the lowest byte of 262 is 6.
@@ -48,22 +61,49 @@ fn cleaning(side: u32) -> Case<'static> {
     Case::new("clean").with("side", side)
 }
 
+/// Numbers by chance, the same at each run.
+struct Chance(u32);
+
+impl Chance {
+    /// A number from 0 to bound minus 1, which is at most 65,535.
+    fn below(&mut self, bound: u32) -> u32 {
+        self.0 = self.0.wrapping_mul(1_103_515_245).wrapping_add(12_345);
+        (self.0 >> 16) % bound
+    }
+}
+
 /// A plate.
 #[derive(Clone)]
 struct Plate {
     width: u32,
     height: u32,
-    greys: Vec<u8>,
+    greatest: u32,
+    greys: Vec<u16>,
+}
+
+/// A plate's nodes, their number; its record; and the record without the three fields
+/// in front, which is its old form when the greatest grey is 255.
+struct Described {
+    nodes: usize,
+    record: Vec<u8>,
+    old: Vec<u8>,
 }
 
 impl Plate {
-    fn new(width: u32, height: u32, grey: impl FnMut(u32) -> u8) -> Plate {
+    /// A plate with greatest grey 255.
+    fn new(width: u32, height: u32, grey: impl FnMut(u32) -> u16) -> Plate {
         let greys = (0..width * height).map(grey).collect();
         Plate {
             width,
             height,
+            greatest: 255,
             greys,
         }
+    }
+
+    /// The same greys with another greatest grey.
+    fn up_to(self, greatest: u32) -> Plate {
+        Plate { greatest, ..self }
     }
 
     /// The specification's small plate.
@@ -74,7 +114,7 @@ impl Plate {
 
     /// The negative.
     fn negative(&self) -> Plate {
-        let greys = negative(&self.greys);
+        let greys = negative(&self.greys, self.greatest);
         Plate { greys, ..*self }
     }
 
@@ -93,9 +133,10 @@ impl Plate {
         begun
             .with("width", self.width)
             .with("height", self.height)
+            .with("greatest", self.greatest)
             .with("connectivity", connectivity)
             .with("work", 8 * self.pixels() + 2)
-            .on(&self.greys)
+            .painted(&self.greys)
     }
 
     /// The same with a limit and an output.
@@ -105,10 +146,14 @@ impl Plate {
             .with("out", self.pixels() + 1)
     }
 
-    /// The plate's nodes, and its record.
-    fn described(&self, connectivity: u32) -> (usize, Vec<u8>) {
+    /// The number of nodes, and both forms of the record.
+    fn described(&self, connectivity: u32) -> Described {
         let grid = Grid::new(self.width, self.height, connectivity);
         let nodes = nodes_of(&grid, &self.greys);
-        (nodes.len(), record_of(&grid, &self.greys, &nodes))
+        Described {
+            nodes: nodes.len(),
+            record: record_of(&grid, self.greatest, &self.greys, &nodes),
+            old: old_record_of(&grid, &self.greys, &nodes),
+        }
     }
 }

@@ -1,6 +1,6 @@
 //! Cleaning a plate at a limit, on the light or the dark side.
 
-use crate::grid::{check_plate, thresholds, Grid};
+use crate::grid::{check_plate, thresholds, Grid, Shape};
 use crate::work::{check_work, zero_work};
 use crate::Done;
 
@@ -15,32 +15,36 @@ pub const SIDES: [u32; 2] = [LIGHT, DARK];
 #[allow(clippy::too_many_arguments)]
 pub fn clean(
     side: u32,
-    plate: &[u8],
+    plate: &[u16],
     width: u32,
     height: u32,
+    greatest: u32,
     connectivity: u32,
     limit: u32,
-    out: &mut [u8],
+    out: &mut [u16],
     work: &mut [u32],
 ) -> Done {
-    let shape = (width, height, connectivity);
+    let shape = Shape::of([width, height, greatest, connectivity]);
     let grid = match check_cleaning(side, plate, shape, limit, out, work) {
         Ok(grid) => grid,
         Err(refusal) => return Done { refusal },
     };
-    let cleaned = cleaned_plate(side, &grid, plate, limit as usize);
+    let cleaned = match side {
+        LIGHT => opened_plate(&grid, plate, limit as usize),
+        _ => closed_plate(&grid, plate, greatest, limit as usize),
+    };
     out[..cleaned.len()].copy_from_slice(&cleaned);
     zero_work(work, grid.pixels());
     Done::default()
 }
 
-/// The conditions of cleaning: 26, 1, 2, 3, 4, 5, 6.
+/// The conditions of cleaning: 26, 1, 2, 29, 3, 28, 4, 5, 6.
 fn check_cleaning(
     side: u32,
-    plate: &[u8],
-    shape: (u32, u32, u32),
+    plate: &[u16],
+    shape: Shape,
     limit: u32,
-    out: &[u8],
+    out: &[u16],
     work: &[u32],
 ) -> Result<Grid, u32> {
     if !SIDES.contains(&side) {
@@ -54,33 +58,19 @@ fn check_cleaning(
     Ok(grid)
 }
 
-/// The conditions on a plate and a limit: 1, 2, 3, 4.
-pub fn check_limit(
-    plate: &[u8],
-    (width, height, connectivity): (u32, u32, u32),
-    limit: u32,
-) -> Result<Grid, u32> {
-    let grid = check_plate(plate, width, height, connectivity)?;
+/// The conditions on a plate and a limit: 1, 2, 29, 3, 28, 4.
+pub fn check_limit(plate: &[u16], shape: Shape, limit: u32) -> Result<Grid, u32> {
+    let grid = check_plate(plate, shape)?;
     if limit == 0 || limit as usize > grid.pixels() {
         return Err(4);
     }
     Ok(grid)
 }
 
-/// The plate cleaned on a side: on the light side it is opened; on the dark
-/// side its negative is, and the result is negated back.
-fn cleaned_plate(side: u32, grid: &Grid, plate: &[u8], limit: usize) -> Vec<u8> {
-    if side == LIGHT {
-        opened_plate(grid, plate, limit)
-    } else {
-        negative(&opened_plate(grid, &negative(plate), limit))
-    }
-}
-
 /// Each pixel's opened value: the greatest t for which its component of "grey at
 /// least t" has at least the limit's pixels or holds a trim-edge pixel. A connected
 /// set with no grey below t that qualifies lies in a component that does.
-pub fn opened_plate(grid: &Grid, plate: &[u8], limit: usize) -> Vec<u8> {
+pub fn opened_plate(grid: &Grid, plate: &[u16], limit: usize) -> Vec<u16> {
     let mut opened = vec![0; grid.pixels()];
     for t in thresholds(plate) {
         for component in grid.components_at_least(plate, t) {
@@ -95,7 +85,14 @@ pub fn opened_plate(grid: &Grid, plate: &[u8], limit: usize) -> Vec<u8> {
     opened
 }
 
-/// The negative: 255 minus each grey.
-pub fn negative(plate: &[u8]) -> Vec<u8> {
-    plate.iter().map(|grey| 255 - grey).collect()
+/// Each pixel's closed value: the negative is opened, and the result negated back.
+fn closed_plate(grid: &Grid, plate: &[u16], greatest: u32, limit: usize) -> Vec<u16> {
+    let opened = opened_plate(grid, &negative(plate, greatest), limit);
+    negative(&opened, greatest)
+}
+
+/// The negative: the greatest grey minus each grey.
+pub fn negative(plate: &[u16], greatest: u32) -> Vec<u16> {
+    let negated = |&grey: &u16| (greatest - u32::from(grey)) as u16;
+    plate.iter().map(negated).collect()
 }

@@ -8,7 +8,7 @@ const SIZE: usize = 4_000_000;
 /// Its end: the numbers and a pixel.
 const END: &[u8] = b"1 1 255\na";
 
-/// For each file the refusal, the width, the height and the output's byte.
+/// For each file the refusal, the width, the height and the output's grey as a letter.
 pub fn deep_text() -> String {
     [b"#\n", b" \n"]
         .map(|filler| line(&file_of(filler)))
@@ -25,8 +25,8 @@ fn file_of(filler: &[u8]) -> Vec<u8> {
 }
 
 fn line(file: &[u8]) -> String {
-    let mut out = [b'.'];
+    let mut out = [u16::from(b'.')];
     let head = read_pgm(file, &mut out);
-    let pixel = char::from(out[0]);
+    let pixel = char::from_u32(out[0].into()).unwrap_or('?');
     format!("{} {} {} {pixel}\n", head.refusal, head.width, head.height)
 }

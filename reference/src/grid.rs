@@ -1,9 +1,14 @@
-//! The grid of a plate: its bounds, its touching pixels, its trim edge, its components.
+//! The grid of a plate: its bounds and those of its greatest grey,
+//! its touching pixels, its trim edge, its components.
+
+use std::collections::BTreeSet;
 
 /// The greatest width and the greatest height.
 pub const MAX_WIDTH_OR_HEIGHT: u32 = 32_768;
 /// The greatest number of pixels.
 pub const MAX_PIXELS: u64 = 16_777_216;
+/// The greatest number that a plate may have as its greatest grey.
+pub const MAX_GREATEST: u32 = 65_535;
 /// The connectivities.
 pub const CONNECTIVITIES: [u32; 3] = [4, 6, 8];
 
@@ -32,17 +37,54 @@ pub fn is_size(width: u32, height: u32) -> bool {
         && u64::from(width) * u64::from(height) <= MAX_PIXELS
 }
 
-/// The checks that begin every operation on a plate: 1, then 2, then 3.
-pub fn check_plate(plate: &[u8], width: u32, height: u32, connectivity: u32) -> Result<Grid, u32> {
-    if !is_connectivity(connectivity) {
+/// Is this the greatest grey of some plate?
+pub fn is_greatest(number: u32) -> bool {
+    (1..=MAX_GREATEST).contains(&number)
+}
+
+/// Is some pixel above the greatest grey?
+pub fn any_above(plate: &[u16], greatest: u32) -> bool {
+    plate.iter().any(|&grey| u32::from(grey) > greatest)
+}
+
+/// What a call says of its plate besides the greys.
+#[derive(Clone, Copy, Debug, PartialEq, Eq)]
+pub struct Shape {
+    pub width: u32,
+    pub height: u32,
+    pub greatest: u32,
+    pub connectivity: u32,
+}
+
+impl Shape {
+    /// A shape of these numbers: width, height, greatest grey, connectivity.
+    pub fn of([width, height, greatest, connectivity]: [u32; 4]) -> Shape {
+        Shape {
+            width,
+            height,
+            greatest,
+            connectivity,
+        }
+    }
+}
+
+/// The checks that begin every operation on a plate: 1, 2, 29, 3, 28.
+pub fn check_plate(plate: &[u16], shape: Shape) -> Result<Grid, u32> {
+    if !is_connectivity(shape.connectivity) {
         return Err(1);
     }
-    if !is_size(width, height) {
+    if !is_size(shape.width, shape.height) {
         return Err(2);
     }
-    let grid = Grid::new(width, height, connectivity);
+    if !is_greatest(shape.greatest) {
+        return Err(29);
+    }
+    let grid = Grid::new(shape.width, shape.height, shape.connectivity);
     if plate.len() != grid.pixels() {
         return Err(3);
+    }
+    if any_above(plate, shape.greatest) {
+        return Err(28);
     }
     Ok(grid)
 }
@@ -152,12 +194,12 @@ impl Grid {
     }
 
     /// The connected components of "grey at least t".
-    pub fn components_at_least(&self, plate: &[u8], t: u8) -> Vec<Vec<usize>> {
+    pub fn components_at_least(&self, plate: &[u16], t: u16) -> Vec<Vec<usize>> {
         self.components(&|p| plate[p] >= t)
     }
 
     /// The flat zones: the greatest connected sets of one grey.
-    pub fn flat_zones(&self, plate: &[u8]) -> Vec<Vec<usize>> {
+    pub fn flat_zones(&self, plate: &[u16]) -> Vec<Vec<usize>> {
         let mut seen = vec![false; self.pixels()];
         let mut zones = Vec::new();
         for p in 0..self.pixels() {
@@ -171,6 +213,7 @@ impl Grid {
 
 /// The greys that occur in the plate, rising. Any other threshold t gives the
 /// same set "grey at least t" as the next grey above it, or the empty set.
-pub fn thresholds(plate: &[u8]) -> Vec<u8> {
-    (0..=255).filter(|t| plate.contains(t)).collect()
+pub fn thresholds(plate: &[u16]) -> Vec<u16> {
+    let occurring: BTreeSet<u16> = plate.iter().copied().collect();
+    occurring.into_iter().collect()
 }

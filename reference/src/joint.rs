@@ -1,7 +1,7 @@
 //! A plate's record, the cut of that record and its size list, by one call.
 
 use crate::cleaning::check_limit;
-use crate::grid::Grid;
+use crate::grid::{Grid, Shape};
 use crate::nodes::{cut_of, nodes_of};
 use crate::record::record_of;
 use crate::sizes::sizes_of;
@@ -11,7 +11,7 @@ use crate::work::{check_work, zero_work};
 #[derive(Debug)]
 pub struct JointOutputs<'a> {
     pub record: &'a mut [u8],
-    pub out: &'a mut [u8],
+    pub out: &'a mut [u16],
     pub counts: &'a mut [u32],
     pub losses: &'a mut [u64],
 }
@@ -22,22 +22,25 @@ pub struct JointHead {
     pub refusal: u32,
     pub length: usize,
     pub nodes: u32,
-    pub darkest: u8,
+    pub darkest: u16,
     pub held: u64,
 }
 
 /// Writes the record of a plate, cuts it at the limit and lists its sizes.
+#[allow(clippy::too_many_arguments)]
 pub fn write_cut_list(
-    plate: &[u8],
+    plate: &[u16],
     width: u32,
     height: u32,
+    greatest: u32,
     connectivity: u32,
     limit: u32,
     outputs: JointOutputs,
     work: &mut [u32],
 ) -> JointHead {
-    let checked = check_joint(plate, (width, height, connectivity), limit, &outputs, work);
-    match checked.and_then(|grid| joined(&grid, plate, limit, outputs, work)) {
+    let shape = Shape::of([width, height, greatest, connectivity]);
+    let checked = check_joint(plate, shape, limit, &outputs, work);
+    match checked.and_then(|grid| joined(&grid, plate, greatest, limit, outputs, work)) {
         Ok(head) => head,
         Err(refusal) => JointHead {
             refusal,
@@ -46,11 +49,11 @@ pub fn write_cut_list(
     }
 }
 
-/// The conditions that precede any work: 1, 2, 3, 4, then 5 for the cut and
-/// the tables, then 6.
+/// The conditions that precede any work: 1, 2, 29, 3, 28, 4, then 5 for the cut
+/// and the tables, then 6.
 fn check_joint(
-    plate: &[u8],
-    shape: (u32, u32, u32),
+    plate: &[u16],
+    shape: Shape,
     limit: u32,
     outputs: &JointOutputs,
     work: &[u32],
@@ -68,14 +71,15 @@ fn check_joint(
 /// The work: 5 when the record needs more places, else the three answers.
 fn joined(
     grid: &Grid,
-    plate: &[u8],
+    plate: &[u16],
+    greatest: u32,
     limit: u32,
     outputs: JointOutputs,
     work: &mut [u32],
 ) -> Result<JointHead, u32> {
     zero_work(work, grid.pixels());
     let nodes = nodes_of(grid, plate);
-    let record = record_of(grid, plate, &nodes);
+    let record = record_of(grid, greatest, plate, &nodes);
     if outputs.record.len() < record.len() {
         return Err(5);
     }

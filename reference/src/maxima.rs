@@ -1,19 +1,21 @@
 //! Marking the regional maxima of a plate.
 
-use crate::grid::{check_plate, Grid};
+use crate::grid::{check_plate, Grid, Shape};
 use crate::work::{check_work, zero_work};
 use crate::Done;
 
 /// Writes 1 at each pixel inside a regional maximum and 0 elsewhere.
 pub fn regional_maxima(
-    plate: &[u8],
+    plate: &[u16],
     width: u32,
     height: u32,
+    greatest: u32,
     connectivity: u32,
-    marks: &mut [u8],
+    marks: &mut [u16],
     work: &mut [u32],
 ) -> Done {
-    let grid = match check_marks(plate, (width, height, connectivity), marks, work) {
+    let shape = Shape::of([width, height, greatest, connectivity]);
+    let grid = match check_marks(plate, shape, marks, work) {
         Ok(grid) => grid,
         Err(refusal) => return Done { refusal },
     };
@@ -27,14 +29,9 @@ pub fn regional_maxima(
     Done::default()
 }
 
-/// The conditions of marking maxima: 1, 2, 3, 5, 6.
-fn check_marks(
-    plate: &[u8],
-    (width, height, connectivity): (u32, u32, u32),
-    marks: &[u8],
-    work: &[u32],
-) -> Result<Grid, u32> {
-    let grid = check_plate(plate, width, height, connectivity)?;
+/// The conditions of marking maxima: 1, 2, 29, 3, 28, 5, 6.
+fn check_marks(plate: &[u16], shape: Shape, marks: &[u16], work: &[u32]) -> Result<Grid, u32> {
+    let grid = check_plate(plate, shape)?;
     if marks.len() < grid.pixels() {
         return Err(5);
     }
@@ -43,14 +40,14 @@ fn check_marks(
 }
 
 /// The regional maxima, each as its pixels.
-pub fn maxima_of(grid: &Grid, plate: &[u8]) -> Vec<Vec<usize>> {
+pub fn maxima_of(grid: &Grid, plate: &[u16]) -> Vec<Vec<usize>> {
     let mut zones = grid.flat_zones(plate);
     zones.retain(|zone| is_maximum(grid, plate, zone));
     zones
 }
 
 /// Are all outside neighbours of this flat zone strictly darker?
-fn is_maximum(grid: &Grid, plate: &[u8], zone: &[usize]) -> bool {
+fn is_maximum(grid: &Grid, plate: &[u16], zone: &[usize]) -> bool {
     let grey = plate[zone[0]];
     zone.iter().all(|&p| {
         grid.neighbours(p)

@@ -2,14 +2,14 @@
 
 use std::collections::BTreeSet;
 
-use crate::grid::{check_plate, thresholds, Grid};
+use crate::grid::{check_plate, thresholds, Grid, Shape};
 use crate::work::{check_work, zero_work};
 
 /// A node: its set of pixels (numbers rising) and what the specification names of it.
 #[derive(Clone, Debug, PartialEq, Eq)]
 pub struct Node {
     pub pixels: Vec<usize>,
-    pub level: u8,
+    pub level: u16,
     pub area: usize,
     pub anchor: usize,
     pub parent: usize,
@@ -18,7 +18,7 @@ pub struct Node {
 /// The lent columns of the node list.
 #[derive(Debug)]
 pub struct NodeColumns<'a> {
-    pub levels: &'a mut [u8],
+    pub levels: &'a mut [u32],
     pub parents: &'a mut [u32],
     pub areas: &'a mut [u32],
     pub anchors: &'a mut [u32],
@@ -59,18 +59,19 @@ impl NodeEntry {
 
 /// Lists the nodes as columns. The root's parent is given as 0.
 pub fn node_list(
-    plate: &[u8],
+    plate: &[u16],
     width: u32,
     height: u32,
+    greatest: u32,
     connectivity: u32,
     columns: NodeColumns,
     work: &mut [u32],
 ) -> NodeCount {
-    let shape = (width, height, connectivity);
+    let shape = Shape::of([width, height, greatest, connectivity]);
     let listed = listed_nodes(plate, shape, columns.places(), work);
     NodeCount::of(listed.map(|nodes| {
         for (i, node) in nodes.iter().enumerate() {
-            columns.levels[i] = node.level;
+            columns.levels[i] = node.level.into();
             columns.parents[i] = node.parent as u32;
             columns.areas[i] = node.area as u32;
             columns.anchors[i] = node.anchor as u32;
@@ -81,14 +82,15 @@ pub fn node_list(
 
 /// Lists the nodes as entries of one list.
 pub fn node_entries(
-    plate: &[u8],
+    plate: &[u16],
     width: u32,
     height: u32,
+    greatest: u32,
     connectivity: u32,
     list: &mut [NodeEntry],
     work: &mut [u32],
 ) -> NodeCount {
-    let shape = (width, height, connectivity);
+    let shape = Shape::of([width, height, greatest, connectivity]);
     let listed = listed_nodes(plate, shape, list.len(), work);
     NodeCount::of(listed.map(|nodes| {
         for (entry, node) in list.iter_mut().zip(&nodes) {
@@ -108,14 +110,15 @@ pub fn node_at(list: &[NodeEntry], at: usize) -> NodeEntry {
     list.get(at).copied().unwrap_or_default()
 }
 
-/// The nodes for a list of so many places, with the conditions: 1, 2, 3, 6, 5.
+/// The nodes for a list of so many places, with the conditions: 1, 2, 29,
+/// 3, 28, 6, 5.
 fn listed_nodes(
-    plate: &[u8],
-    (width, height, connectivity): (u32, u32, u32),
+    plate: &[u16],
+    shape: Shape,
     places: usize,
     work: &mut [u32],
 ) -> Result<Vec<Node>, u32> {
-    let grid = check_plate(plate, width, height, connectivity)?;
+    let grid = check_plate(plate, shape)?;
     check_work(work, grid.pixels())?;
     zero_work(work, grid.pixels());
     let nodes = nodes_of(&grid, plate);
@@ -147,7 +150,7 @@ impl NodeColumns<'_> {
 }
 
 /// All nodes, numbered by level rising, then anchor rising.
-pub fn nodes_of(grid: &Grid, plate: &[u8]) -> Vec<Node> {
+pub fn nodes_of(grid: &Grid, plate: &[u16]) -> Vec<Node> {
     let sets = node_sets(grid, plate, &thresholds(plate));
     let mut nodes: Vec<Node> = sets
         .into_iter()
@@ -162,7 +165,7 @@ pub fn nodes_of(grid: &Grid, plate: &[u8]) -> Vec<Node> {
 }
 
 /// The components of "grey at least t" for each t given, duplicates dropped.
-pub fn node_sets(grid: &Grid, plate: &[u8], ts: &[u8]) -> BTreeSet<Vec<usize>> {
+pub fn node_sets(grid: &Grid, plate: &[u16], ts: &[u16]) -> BTreeSet<Vec<usize>> {
     let mut sets = BTreeSet::new();
     for &t in ts {
         sets.extend(grid.components_at_least(plate, t));
@@ -171,7 +174,7 @@ pub fn node_sets(grid: &Grid, plate: &[u8], ts: &[u8]) -> BTreeSet<Vec<usize>> {
 }
 
 /// A node from its set of pixels, its parent still to be found.
-fn described(plate: &[u8], pixels: Vec<usize>) -> Node {
+fn described(plate: &[u16], pixels: Vec<usize>) -> Node {
     let level = pixels.iter().map(|&p| plate[p]).min().unwrap_or(0);
     let at_level = pixels.iter().copied().filter(|&p| plate[p] == level);
     Node {
@@ -216,7 +219,7 @@ fn strictly_contains(outer: &Node, inner: &Node) -> bool {
 }
 
 /// Each pixel's own node: the one containing it whose level is its grey.
-pub fn own_nodes(plate: &[u8], nodes: &[Node]) -> Vec<usize> {
+pub fn own_nodes(plate: &[u16], nodes: &[Node]) -> Vec<usize> {
     let mut own = vec![0; plate.len()];
     for (i, node) in nodes.iter().enumerate() {
         for &p in &node.pixels {
@@ -230,7 +233,7 @@ pub fn own_nodes(plate: &[u8], nodes: &[Node]) -> Vec<usize> {
 
 /// The cut at a limit: at each pixel the highest level among the nodes containing
 /// it that have area at least the limit or hold a trim-edge pixel.
-pub fn cut_of(grid: &Grid, nodes: &[Node], limit: usize) -> Vec<u8> {
+pub fn cut_of(grid: &Grid, nodes: &[Node], limit: usize) -> Vec<u16> {
     let mut cut = vec![0; grid.pixels()];
     for node in nodes {
         if !grid.qualifies(&node.pixels, limit) {

@@ -1,6 +1,6 @@
 //! Reading a plate file, the binary form of PGM.
 
-use crate::grid::is_size;
+use crate::grid::{any_above, is_greatest, is_size};
 
 /// The answer of reading a plate file.
 #[derive(Clone, Copy, Debug, Default, PartialEq, Eq)]
@@ -8,15 +8,17 @@ pub struct PlateHead {
     pub refusal: u32,
     pub width: u32,
     pub height: u32,
+    pub greatest: u32,
 }
 
 /// Reads a plate file into a plate.
-pub fn read_pgm(file: &[u8], out: &mut [u8]) -> PlateHead {
+pub fn read_pgm(file: &[u8], out: &mut [u16]) -> PlateHead {
     match read_checked(file, out) {
-        Ok((width, height)) => PlateHead {
+        Ok((width, height, greatest)) => PlateHead {
             refusal: 0,
             width,
             height,
+            greatest,
         },
         Err(refusal) => PlateHead {
             refusal,
@@ -25,27 +27,54 @@ pub fn read_pgm(file: &[u8], out: &mut [u8]) -> PlateHead {
     }
 }
 
-/// Reading with its conditions: 10, 11, 2, 12, 14, 15, 5.
-fn read_checked(file: &[u8], out: &mut [u8]) -> Result<(u32, u32), u32> {
-    let ((width, height, greatest), raster) = take_header(file)?;
+/// Reading with its conditions: 10, 11, 2, 12, 14, 15, 28, 5.
+fn read_checked(file: &[u8], out: &mut [u16]) -> Result<Numbers, u32> {
+    let (numbers, raster) = take_header(file)?;
+    let (width, height, greatest) = numbers;
     if !is_size(width, height) {
         return Err(2);
     }
-    if greatest != 255 {
+    if !is_greatest(greatest) {
         return Err(12);
     }
     let pixels = (width * height) as usize;
-    if raster.len() < pixels {
+    let bytes = pixels * bytes_a_pixel(greatest);
+    if raster.len() < bytes {
         return Err(14);
     }
-    if raster.len() > pixels {
+    if raster.len() > bytes {
         return Err(15);
+    }
+    let plate = greys_of(raster, greatest);
+    if any_above(&plate, greatest) {
+        return Err(28);
     }
     if out.len() < pixels {
         return Err(5);
     }
-    out[..pixels].copy_from_slice(raster);
-    Ok((width, height))
+    out[..pixels].copy_from_slice(&plate);
+    Ok(numbers)
+}
+
+/// The bytes of a raster for each pixel: one up to a greatest grey of 255, then two.
+fn bytes_a_pixel(greatest: u32) -> usize {
+    if greatest < 256 {
+        1
+    } else {
+        2
+    }
+}
+
+/// The greys of a raster; of two bytes the high one comes first.
+fn greys_of(raster: &[u8], greatest: u32) -> Vec<u16> {
+    let pixels = raster.chunks(bytes_a_pixel(greatest));
+    pixels
+        .map(|bytes| {
+            bytes
+                .iter()
+                .fold(0, |grey, &byte| grey * 256 + u16::from(byte))
+        })
+        .collect()
 }
 
 /// The answer of reading a header: its three numbers, and where the byte

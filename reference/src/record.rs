@@ -1,11 +1,18 @@
-//! Writing a record, reading it, and cutting it at a limit.
+//! Writing a record, reading it in either form, and cutting it at a limit.
 
-use crate::grid::{check_plate, is_connectivity, is_size, is_width_or_height, Grid};
+use crate::grid::{
+    check_plate, is_connectivity, is_greatest, is_size, is_width_or_height, Grid, Shape,
+};
 use crate::nodes::{cut_of, nodes_of, own_nodes, Node};
 use crate::varint::{spelled, take_field};
 use crate::work::{check_work, zero_work};
 
-/// The answer of writing a record.
+/// The first field of a record in the new form, and its second.
+const NEW_FORM: [u32; 2] = [0, 2];
+/// The greatest grey of every record in the old form.
+pub const OLD_GREATEST: u32 = 255;
+
+/// The answer of writing a record and of converting it.
 #[derive(Clone, Copy, Debug, Default, PartialEq, Eq)]
 pub struct RecordLength {
     pub refusal: u32,
@@ -18,44 +25,60 @@ pub struct RecordHead {
     pub refusal: u32,
     pub width: u32,
     pub height: u32,
+    pub greatest: u32,
     pub connectivity: u32,
 }
 
-/// Writes the record of a plate.
+/// Writes the record of a plate, in the new form.
 pub fn write_record(
-    plate: &[u8],
+    plate: &[u16],
     width: u32,
     height: u32,
+    greatest: u32,
     connectivity: u32,
     out: &mut [u8],
     work: &mut [u32],
 ) -> RecordLength {
-    match write_checked(plate, (width, height, connectivity), out, work) {
-        Ok(length) => RecordLength { refusal: 0, length },
-        Err(refusal) => RecordLength { refusal, length: 0 },
+    let shape = Shape::of([width, height, greatest, connectivity]);
+    RecordLength::of(write_checked(plate, shape, out, work))
+}
+
+impl RecordLength {
+    /// The answer: the length of the record, or the refusal.
+    pub fn of(put: Result<usize, u32>) -> RecordLength {
+        match put {
+            Ok(length) => RecordLength { refusal: 0, length },
+            Err(refusal) => RecordLength { refusal, length: 0 },
+        }
     }
 }
 
-/// Writing with its conditions: 1, 2, 3, 6, 5.
+/// Writing with its conditions: 1, 2, 29, 3, 28, 6, 5.
 fn write_checked(
-    plate: &[u8],
-    (width, height, connectivity): (u32, u32, u32),
+    plate: &[u16],
+    shape: Shape,
     out: &mut [u8],
     work: &mut [u32],
 ) -> Result<usize, u32> {
-    let grid = check_plate(plate, width, height, connectivity)?;
+    let grid = check_plate(plate, shape)?;
     check_work(work, grid.pixels())?;
     zero_work(work, grid.pixels());
-    let record = record_of(&grid, plate, &nodes_of(&grid, plate));
-    if out.len() < record.len() {
-        return Err(5);
-    }
-    out[..record.len()].copy_from_slice(&record);
+    let record = record_of(&grid, shape.greatest, plate, &nodes_of(&grid, plate));
+    put(&record, out)?;
     Ok(record.len())
 }
 
-/// The bytes of a plate's record, given its nodes.
-pub fn record_of(grid: &Grid, plate: &[u8], nodes: &[Node]) -> Vec<u8> {
+/// The bytes of a plate's record in the new form, given its nodes: three fields in
+/// front of the old form.
+pub fn record_of(grid: &Grid, greatest: u32, plate: &[u16], nodes: &[Node]) -> Vec<u8> {
+    let front = NEW_FORM.into_iter().chain([greatest]);
+    let mut record: Vec<u8> = front.flat_map(spelled).collect();
+    record.extend(old_record_of(grid, plate, nodes));
+    record
+}
+
+/// The bytes of a plate's record in the old form, given its nodes.
+pub fn old_record_of(grid: &Grid, plate: &[u16], nodes: &[Node]) -> Vec<u8> {
     let mut fields = vec![grid.width, grid.height, grid.connectivity as usize];
     fields.push(nodes.len());
     for (i, node) in nodes.iter().enumerate() {
@@ -73,55 +96,61 @@ pub fn record_of(grid: &Grid, plate: &[u8], nodes: &[Node]) -> Vec<u8> {
 }
 
 /// Reads a record back into its plate.
-pub fn read_record(record: &[u8], out: &mut [u8], work: &mut [u32]) -> RecordHead {
+pub fn read_record(record: &[u8], out: &mut [u16], work: &mut [u32]) -> RecordHead {
     match read_checked(record, out, work) {
-        Ok(grid) => head_of(&grid),
+        Ok(accepted) => head_of(&accepted),
         Err(refusal) => refused(refusal),
     }
 }
 
 /// Reading with its conditions: up to 24, then 5.
-fn read_checked(record: &[u8], out: &mut [u8], work: &mut [u32]) -> Result<Grid, u32> {
+fn read_checked(record: &[u8], out: &mut [u16], work: &mut [u32]) -> Result<Accepted, u32> {
     let accepted = accept_record(record, work)?;
-    put_plate(&accepted.plate, out)?;
-    Ok(accepted.grid)
+    put(&accepted.plate, out)?;
+    Ok(accepted)
 }
 
 /// Cuts a record at a limit.
-pub fn cut_record(record: &[u8], limit: u32, out: &mut [u8], work: &mut [u32]) -> RecordHead {
+pub fn cut_record(record: &[u8], limit: u32, out: &mut [u16], work: &mut [u32]) -> RecordHead {
     match cut_checked(record, limit, out, work) {
-        Ok(grid) => head_of(&grid),
+        Ok(accepted) => head_of(&accepted),
         Err(refusal) => refused(refusal),
     }
 }
 
 /// Cutting with its conditions: up to 24, then 4, then 5.
-fn cut_checked(record: &[u8], limit: u32, out: &mut [u8], work: &mut [u32]) -> Result<Grid, u32> {
+fn cut_checked(
+    record: &[u8],
+    limit: u32,
+    out: &mut [u16],
+    work: &mut [u32],
+) -> Result<Accepted, u32> {
     let accepted = accept_record(record, work)?;
     if limit == 0 || limit as usize > accepted.grid.pixels() {
         return Err(4);
     }
     let cut = cut_of(&accepted.grid, &accepted.nodes, limit as usize);
-    put_plate(&cut, out)?;
-    Ok(accepted.grid)
+    put(&cut, out)?;
+    Ok(accepted)
 }
 
-/// Copies a plate to the output, or 5 when that is shorter.
-fn put_plate(plate: &[u8], out: &mut [u8]) -> Result<(), u32> {
-    if out.len() < plate.len() {
+/// Copies a plate or a record to the output, or 5 when that is shorter.
+pub fn put<T: Copy>(answer: &[T], out: &mut [T]) -> Result<(), u32> {
+    if out.len() < answer.len() {
         return Err(5);
     }
-    out[..plate.len()].copy_from_slice(plate);
+    out[..answer.len()].copy_from_slice(answer);
     Ok(())
 }
 
 /// The answer without a refusal.
-fn head_of(grid: &Grid) -> RecordHead {
+fn head_of(accepted: &Accepted) -> RecordHead {
     RecordHead {
         refusal: 0,
-        width: grid.width as u32,
-        height: grid.height as u32,
-        connectivity: grid.connectivity,
+        width: accepted.grid.width as u32,
+        height: accepted.grid.height as u32,
+        greatest: accepted.greatest,
+        connectivity: accepted.grid.connectivity,
     }
 }
 
@@ -133,30 +162,67 @@ fn refused(refusal: u32) -> RecordHead {
     }
 }
 
-/// A record that was accepted: its plate, and that plate's nodes.
+/// A record that was accepted: its plate, with the greatest grey and the nodes.
 pub struct Accepted {
     pub grid: Grid,
-    pub plate: Vec<u8>,
+    pub greatest: u32,
+    pub plate: Vec<u16>,
     pub nodes: Vec<Node>,
+}
+
+impl Accepted {
+    /// The plate's record in a form.
+    pub fn spelled_in(&self, form: Form) -> Vec<u8> {
+        match form {
+            Form::Old => old_record_of(&self.grid, &self.plate, &self.nodes),
+            Form::New => record_of(&self.grid, self.greatest, &self.plate, &self.nodes),
+        }
+    }
+}
+
+/// The forms of a record.
+#[derive(Clone, Copy, Debug, PartialEq, Eq)]
+pub enum Form {
+    Old,
+    New,
 }
 
 /// All conditions on a record up to 24, in order. Work space is zeroed as
 /// soon as 6 is after, so every later refusal finds it so.
 pub fn accept_record(record: &[u8], work: &mut [u32]) -> Result<Accepted, u32> {
     let mut fields = Fields { bytes: record };
+    let (form, greatest) = take_form(&mut fields)?;
     let (grid, count) = take_head(&mut fields)?;
     check_work(work, grid.pixels())?;
     zero_work(work, grid.pixels());
-    let levels = take_nodes(&mut fields, &grid, count)?;
+    let levels = take_nodes(&mut fields, &grid, greatest, count)?;
     let plate = take_plate(&mut fields, &grid, &levels)?;
     if !fields.bytes.is_empty() {
         return Err(23);
     }
-    let nodes = nodes_of(&grid, &plate);
-    if record_of(&grid, &plate, &nodes) != record {
+    let accepted = Accepted {
+        grid,
+        greatest,
+        nodes: nodes_of(&grid, &plate),
+        plate,
+    };
+    if accepted.spelled_in(form) != record {
         return Err(24);
     }
-    Ok(Accepted { grid, plate, nodes })
+    Ok(accepted)
+}
+
+/// The form, and the greatest grey. A first field of 0 marks the new form; any other
+/// is the width of the old one and is left to be taken as such.
+fn take_form(fields: &mut Fields) -> Result<(Form, u32), u32> {
+    let (first, _) = take_field(fields.bytes)?;
+    if first != NEW_FORM[0] {
+        return Ok((Form::Old, OLD_GREATEST));
+    }
+    for mark in NEW_FORM {
+        fields.take(|field| field == mark)?;
+    }
+    Ok((Form::New, fields.take(is_greatest)?))
 }
 
 /// Width, height, connectivity and node count.
@@ -171,16 +237,21 @@ fn take_head(fields: &mut Fields) -> Result<(Grid, u32), u32> {
 }
 
 /// The fields of the nodes; what is kept of them is their levels.
-fn take_nodes(fields: &mut Fields, grid: &Grid, count: u32) -> Result<Vec<u32>, u32> {
+fn take_nodes(
+    fields: &mut Fields,
+    grid: &Grid,
+    greatest: u32,
+    count: u32,
+) -> Result<Vec<u32>, u32> {
     let pixels = grid.pixels() as u32;
     let is_area = |area: u32| (1..=pixels).contains(&area);
-    let root_level = fields.take(|level| level <= 255)?;
+    let root_level = fields.take(|level| level <= greatest)?;
     fields.take(is_area)?;
     let mut levels = vec![root_level];
     for number in 1..count {
         let step = fields.take(|step| (1..=number).contains(&step))?;
         let parent_level = levels[(number - step) as usize];
-        let rise = fields.take(|rise| (1..=255 - parent_level).contains(&rise))?;
+        let rise = fields.take(|rise| (1..=greatest - parent_level).contains(&rise))?;
         fields.take(is_area)?;
         levels.push(parent_level + rise);
     }
@@ -188,11 +259,11 @@ fn take_nodes(fields: &mut Fields, grid: &Grid, count: u32) -> Result<Vec<u32>, 
 }
 
 /// The own nodes of all pixels, turned into the plate they spell.
-fn take_plate(fields: &mut Fields, grid: &Grid, levels: &[u32]) -> Result<Vec<u8>, u32> {
+fn take_plate(fields: &mut Fields, grid: &Grid, levels: &[u32]) -> Result<Vec<u16>, u32> {
     let mut plate = Vec::new();
     for _ in 0..grid.pixels() {
         let own = fields.take(|own| (own as usize) < levels.len())?;
-        plate.push(levels[own as usize] as u8);
+        plate.push(levels[own as usize] as u16);
     }
     Ok(plate)
 }

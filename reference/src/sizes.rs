@@ -10,9 +10,10 @@ pub struct SizeHead {
     pub refusal: u32,
     pub width: u32,
     pub height: u32,
+    pub greatest: u32,
     pub connectivity: u32,
     pub nodes: u32,
-    pub darkest: u8,
+    pub darkest: u16,
     pub held: u64,
 }
 
@@ -51,6 +52,7 @@ fn size_checked(
         refusal: 0,
         width: accepted.grid.width as u32,
         height: accepted.grid.height as u32,
+        greatest: accepted.greatest,
         connectivity: accepted.grid.connectivity,
         nodes: accepted.nodes.len() as u32,
         darkest: sizes.darkest,
@@ -62,13 +64,13 @@ fn size_checked(
 pub struct Sizes {
     pub counts: Vec<u32>,
     pub losses: Vec<u64>,
-    pub darkest: u8,
+    pub darkest: u16,
     pub held: u64,
 }
 
 /// Counts the nodes of each area that hold no trim-edge pixel, and the grey lost
 /// there. The root holds every pixel, so it is never counted.
-pub fn sizes_of(grid: &Grid, plate: &[u8], nodes: &[Node]) -> Sizes {
+pub fn sizes_of(grid: &Grid, plate: &[u16], nodes: &[Node]) -> Sizes {
     let pixels = grid.pixels();
     let mut counts = vec![0u32; pixels - 1];
     for node in nodes {
@@ -103,7 +105,7 @@ pub fn grey_lost(grid: &Grid, nodes: &[Node], a: usize) -> u64 {
 
 /// The grey held: the total grey of the cut at the full limit, less the darkest grey
 /// times the pixels.
-fn grey_held(grid: &Grid, nodes: &[Node], darkest: u8) -> u64 {
+fn grey_held(grid: &Grid, nodes: &[Node], darkest: u16) -> u64 {
     let cut = cut_of(grid, nodes, grid.pixels());
     let total: u64 = cut.into_iter().map(u64::from).sum();
     total - u64::from(darkest) * grid.pixels() as u64

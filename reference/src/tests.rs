@@ -2,8 +2,10 @@
 
 mod cases;
 mod examples;
+mod greatest;
 mod helpers;
 mod literal;
+mod new_form;
 mod order;
 mod properties;
 mod refusals;

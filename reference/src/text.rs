@@ -18,13 +18,13 @@ pub fn sizelist_text(input: &[u8]) -> String {
     if input.len() > INPUT_BYTES {
         return refused_text(6);
     }
-    let mut greys = [0; MOST_PIXELS];
+    let mut greys = [0u16; MOST_PIXELS];
     let head = read_pgm(input, &mut greys);
     if head.refusal != 0 {
         return refused_text(head.refusal);
     }
     let grid = Grid::new(head.width, head.height, CONNECTIVITY);
-    listed_text(&grid, &greys[..grid.pixels()])
+    listed_text(&grid, &greys[..grid.pixels()], head.greatest)
 }
 
 /// The text for a refusal.
@@ -33,7 +33,7 @@ fn refused_text(refusal: u32) -> String {
 }
 
 /// The text for a plate.
-fn listed_text(grid: &Grid, plate: &[u8]) -> String {
+fn listed_text(grid: &Grid, plate: &[u16], greatest: u32) -> String {
     let nodes = nodes_of(grid, plate);
     let sizes = sizes_of(grid, plate, &nodes);
     let mut text = format!(
@@ -49,6 +49,6 @@ fn listed_text(grid: &Grid, plate: &[u8]) -> String {
         }
     }
     text += &format!("held {}\n", sizes.held);
-    let ink = ink_percentage(sizes.darkest);
+    let ink = ink_percentage(sizes.darkest, greatest).percentage;
     text + &format!("rest {} {}\n", sizes.darkest, ink)
 }

@@ -1,5 +1,7 @@
-//! Damaged records: cut short, lengthened, changed byte by byte, with fields
+//! Damaged records of the old form: cut short, lengthened, changed byte by byte, with fields
 //! out of form and out of range, with too little work space.
+
+use std::ops::Range;
 
 use super::{on_record, replaced, touch, Case, Plate, UNFIT};
 use crate::varint::spelled;
@@ -8,13 +10,13 @@ use crate::CONNECTIVITIES;
 /// All of them.
 pub fn cases(cases: &mut Vec<Case>) {
     let plate = Plate::small();
-    let record = plate.described(4).1;
+    let record = plate.described(4).old;
     truncated(&record, cases);
-    changed(&record, cases);
-    changed(&Plate::new(1, 1, |_| 7).described(4).1, cases);
+    changed(&record, 0..27, cases);
+    changed(&Plate::new(1, 1, |_| 7).described(4).old, 0..7, cases);
     reformed(&record, cases);
     ranged(&record, cases);
-    spaced(&record, cases);
+    spaced(&record, 0..8, cases);
     long_fields(cases);
     other_plates(cases);
     third_fields(cases);
@@ -22,7 +24,7 @@ pub fn cases(cases: &mut Vec<Case>) {
 }
 
 /// The record read, cut and listed, with room for 12 pixels.
-fn all(record: &[u8], cases: &mut Vec<Case>) {
+pub fn all(record: &[u8], cases: &mut Vec<Case>) {
     cases.push(on_record("read", record, 97).with("out", 13));
     cases.push(
         on_record("cut", record, 96)
@@ -34,7 +36,7 @@ fn all(record: &[u8], cases: &mut Vec<Case>) {
 }
 
 /// The record read alone.
-fn read(record: &[u8], cases: &mut Vec<Case>) {
+pub fn read(record: &[u8], cases: &mut Vec<Case>) {
     cases.push(on_record("read", record, 97).with("out", 12));
 }
 
@@ -54,7 +56,7 @@ fn with_places(
 }
 
 /// Every truncation, and bytes after the end.
-fn truncated(record: &[u8], cases: &mut Vec<Case>) {
+pub fn truncated(record: &[u8], cases: &mut Vec<Case>) {
     for length in 0..=record.len() {
         all(&record[..length], cases);
     }
@@ -64,9 +66,9 @@ fn truncated(record: &[u8], cases: &mut Vec<Case>) {
     all(&[record, record].concat(), cases);
 }
 
-/// Every byte changed to some values.
-fn changed(record: &[u8], cases: &mut Vec<Case>) {
-    for i in 0..record.len() {
+/// Every byte at these places changed to some values.
+pub fn changed(record: &[u8], places: Range<usize>, cases: &mut Vec<Case>) {
+    for i in places {
         let b = record[i];
         let mut values = vec![0, 1, 2, 3, 4, 6, 8, 127, 128, 132, 255];
         values.extend([b.wrapping_sub(1), b.wrapping_add(1), b ^ 128]);
@@ -138,8 +140,8 @@ fn ranged(record: &[u8], cases: &mut Vec<Case>) {
 }
 
 /// Little work space: 6 stands after the node count and ahead of the rest.
-fn spaced(record: &[u8], cases: &mut Vec<Case>) {
-    for length in 0..8 {
+pub fn spaced(record: &[u8], lengths: Range<usize>, cases: &mut Vec<Case>) {
+    for length in lengths {
         for work in [0, 95] {
             with_places("read", &record[..length], 12, work, cases);
         }
@@ -154,12 +156,12 @@ fn spaced(record: &[u8], cases: &mut Vec<Case>) {
 
 /// A record with fields of two bytes, cut short in many places.
 fn long_fields(cases: &mut Vec<Case>) {
-    let plate = Plate::new(20, 9, |p| (p * 89 % 211) as u8);
-    let record = plate.described(8).1;
-    for length in (0..=record.len()).step_by(23) {
+    let plate = Plate::new(20, 9, |p| (p * 89 % 211) as u16);
+    let record = plate.described(8).old;
+    for length in (0..=record.len()).step_by(150) {
         with_places("read", &record[..length], 180, 1_440, cases);
     }
-    for i in (0..record.len()).step_by(17) {
+    for i in (0..record.len()).step_by(150) {
         let mut other = record.clone();
         other[i] ^= 1;
         with_places("read", &other, 180, 1_441, cases);
@@ -167,9 +169,9 @@ fn long_fields(cases: &mut Vec<Case>) {
     with_places("read", &record, 181, 1_440, cases);
 }
 
-/// Records whose fields are in range and which are no plate's: 24.
-fn other_plates(cases: &mut Vec<Case>) {
-    let records: [&[u8]; 8] = [
+/// Records of the old form whose fields are in range, most of them no plate's: 24.
+pub fn other_records() -> [&'static [u8]; 8] {
+    [
         // one pixel, a node without a pixel
         &[1, 1, 4, 2, 7, 1, 1, 1, 1, 0],
         // two pixels of one grey as two nodes
@@ -183,8 +185,12 @@ fn other_plates(cases: &mut Vec<Case>) {
         // the same bytes for the other connectivities
         &[2, 2, 8, 3, 0, 4, 1, 5, 1, 2, 5, 1, 1, 0, 0, 2],
         &[2, 2, 6, 3, 0, 4, 1, 5, 1, 2, 5, 1, 1, 0, 0, 2],
-    ];
-    for record in records {
+    ]
+}
+
+/// Those records read, cut and listed.
+fn other_plates(cases: &mut Vec<Case>) {
+    for record in other_records() {
         all(record, cases);
         // 24 stands ahead of 4 and 5
         for name in ["read", "cut", "sizes"] {
@@ -199,7 +205,7 @@ fn third_fields(cases: &mut Vec<Case>) {
     for plate in touch::plates() {
         let mut records = Vec::new();
         for connectivity in CONNECTIVITIES {
-            let record = plate.described(connectivity).1;
+            let record = plate.described(connectivity).old;
             records.extend(CONNECTIVITIES.map(|other| replaced(&record, 2, &[other as u8])));
         }
         records.sort_unstable();
@@ -208,7 +214,7 @@ fn third_fields(cases: &mut Vec<Case>) {
             all(&record, cases);
         }
     }
-    let record = touch::told_apart().described(6).1;
+    let record = touch::told_apart().described(6).old;
     for number in UNFIT {
         all(&replaced(&record, 2, &spelled(number)), cases);
     }
@@ -225,11 +231,11 @@ fn third_fields(cases: &mut Vec<Case>) {
 /// shortest form and out of its range, little work space.
 fn six(cases: &mut Vec<Case>) {
     let plate = Plate::new(2, 2, |p| if p % 3 == 0 { 9 } else { 0 });
-    let record = plate.described(6).1;
+    let record = plate.described(6).old;
     truncated(&record, cases);
     for i in 0..record.len() {
         all(&replaced(&record, i, &[record[i] | 128, 0]), cases);
         all(&replaced(&record, i, &spelled(u32::MAX)), cases);
     }
-    spaced(&touch::told_apart().described(6).1, cases);
+    spaced(&touch::told_apart().described(6).old, 0..8, cases);
 }

@@ -1,6 +1,7 @@
 //! Writing a record, cutting it and listing its sizes by one call: each
 //! buffer that just fits and that just does not, alone and with others.
 
+use super::plates::LARGE;
 use super::{Case, Plate};
 use crate::CONNECTIVITIES;
 
@@ -13,8 +14,8 @@ pub fn cases(cases: &mut Vec<Case>) {
         Plate::new(5, 1, |p| apart[p as usize]),
         Plate::new(7, 7, |p| super::plates::ring_of(p, 7, 7) * 60),
         Plate::new(3, 3, |_| 255),
-        Plate::new(8, 8, |p| (p * p * 31 + p * 17 + 3) as u8),
-        Plate::new(20, 9, |p| (p * 89 % 211) as u8),
+        Plate::new(8, 8, |p| ((p * p * 31 + p * 17 + 3) % 256) as u16),
+        Plate::new(20, 9, |p| (p * 89 % 211) as u16),
     ];
     for plate in plates {
         for connectivity in CONNECTIVITIES {
@@ -22,7 +23,9 @@ pub fn cases(cases: &mut Vec<Case>) {
             for limit in super::plates::limits(plate.pixels()) {
                 cases.push(ample.clone().with("limit", limit));
             }
-            lengths(&plate, connectivity, cases);
+            if connectivity == 8 || plate.pixels() <= LARGE {
+                lengths(&plate, connectivity, cases);
+            }
         }
     }
     short(cases);
@@ -30,7 +33,7 @@ pub fn cases(cases: &mut Vec<Case>) {
 
 /// A case with a little excess in every buffer.
 pub fn ample(plate: &Plate, connectivity: u32) -> Case<'static> {
-    let record = plate.described(connectivity).1;
+    let record = plate.described(connectivity).record;
     let limit = 2.min(plate.pixels() as u32);
     plate
         .limited(Case::new("joint"), connectivity, limit)
@@ -43,7 +46,7 @@ pub fn ample(plate: &Plate, connectivity: u32) -> Case<'static> {
 fn least(plate: &Plate, connectivity: u32) -> [(&'static str, usize); 5] {
     let n = plate.pixels();
     [
-        ("record", plate.described(connectivity).1.len()),
+        ("record", plate.described(connectivity).record.len()),
         ("out", n),
         ("counts", n - 1),
         ("losses", n - 1),

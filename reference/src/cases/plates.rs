@@ -1,7 +1,7 @@
 //! Cases on plates and on their records: every operation, limits of every
 //! kind, buffers that just fit and that just do not, every set of conditions.
 
-use super::{cleaning, on_record, Case, Plate, UNFIT};
+use super::{cleaning, on_record, Case, Chance, Described, Plate, UNFIT};
 use crate::{CONNECTIVITIES, LIGHT, SIDES};
 
 /// All of them.
@@ -25,11 +25,7 @@ fn plates() -> Vec<Plate> {
     let apart = [5, 0, 5, 0, 5];
     let edges = [0, 0, 9, 9, 0, 0];
     let steps = [10, 30, 50, 30, 10];
-    let mut random = 1u32;
-    let mut below = move |bound: u32| {
-        random = random.wrapping_mul(1_103_515_245).wrapping_add(12_345);
-        (random >> 16) % bound
-    };
+    let mut chance = Chance(1);
     vec![
         Plate::small(),
         Plate::new(1, 1, |_| 7),
@@ -41,26 +37,33 @@ fn plates() -> Vec<Plate> {
         Plate::new(6, 7, |p| 255 - ring_of(p, 6, 7) * 85),
         Plate::new(3, 3, |_| 255),
         Plate::new(2, 4, |_| 0),
-        Plate::new(1, 9, |p| 250 - 30 * p as u8),
-        Plate::new(6, 5, |_| (below(4) * 85) as u8),
-        Plate::new(8, 8, |p| (p * p * 31 + p * 17 + 3) as u8),
-        Plate::new(13, 10, |p| ((p * 7 + p / 13 * 5) % 11 * 25) as u8),
+        Plate::new(1, 9, |p| 250 - 30 * p as u16),
+        Plate::new(6, 5, |_| (chance.below(4) * 85) as u16),
+        Plate::new(8, 8, |p| ((p * p * 31 + p * 17 + 3) % 256) as u16),
+        Plate::new(13, 10, |p| ((p * 7 + p / 13 * 5) % 11 * 25) as u16),
     ]
 }
 
 /// How far a pixel of a 7 x 7 plate is from the nearest edge.
-fn ring(p: u32) -> u8 {
+fn ring(p: u32) -> u16 {
     ring_of(p, 7, 7)
 }
 
-pub fn ring_of(p: u32, width: u32, height: u32) -> u8 {
+pub fn ring_of(p: u32, width: u32, height: u32) -> u16 {
     let (x, y) = (p % width, p / width);
-    x.min(y).min(width - 1 - x).min(height - 1 - y) as u8
+    x.min(y).min(width - 1 - x).min(height - 1 - y) as u16
 }
 
-/// Limits from 0 to the pixels and one more: the ends and some between.
+/// A plate of more pixels is in fewer cases.
+pub const LARGE: usize = 100;
+
+/// Limits from 0 to the pixels and one more: the ends and some between; for a large
+/// plate, whose case is a long line, only two.
 pub fn limits(pixels: usize) -> Vec<u32> {
     let n = pixels as u32;
+    if pixels > LARGE {
+        return vec![2, n / 2];
+    }
     let mut limits = vec![0, 1, 2, 3, n / 2, n.saturating_sub(1), n, n + 1];
     limits.sort_unstable();
     limits.dedup();
@@ -88,7 +91,7 @@ pub fn with_columns(case: Case<'static>, places: usize) -> Case<'static> {
 
 /// The node list: some excess, just enough places, a column short; as entries.
 fn listed(plate: &Plate, connectivity: u32, cases: &mut Vec<Case>) {
-    let (nodes, _) = plate.described(connectivity);
+    let nodes = plate.described(connectivity).nodes;
     let case = plate.case("nodes", connectivity);
     cases.push(with_columns(case.clone(), nodes + 1));
     let exact = with_columns(case, nodes);
@@ -101,17 +104,18 @@ fn listed(plate: &Plate, connectivity: u32, cases: &mut Vec<Case>) {
     }
 }
 
-/// The record: written, read, cut, its sizes listed.
+/// The record: written, read; in the old form read, cut, its sizes listed.
 fn recorded(plate: &Plate, connectivity: u32, cases: &mut Vec<Case>) {
-    let (_, record) = plate.described(connectivity);
+    let Described { record, old, .. } = plate.described(connectivity);
     let n = plate.pixels();
     for places in [record.len() - 1, record.len(), record.len() + 3] {
         cases.push(plate.case("write", connectivity).with("out", places));
     }
+    cases.push(on_record("read", &record, 8 * n).with("out", n));
     for places in [n - 1, n, n + 2] {
-        cases.push(on_record("read", &record, 8 * n + 1).with("out", places));
+        cases.push(on_record("read", &old, 8 * n + 1).with("out", places));
     }
-    let cut = on_record("cut", &record, 8 * n);
+    let cut = on_record("cut", &old, 8 * n);
     for limit in limits(n) {
         cases.push(cut.clone().with("limit", limit).with("out", n + 1));
     }
@@ -121,7 +125,7 @@ fn recorded(plate: &Plate, connectivity: u32, cases: &mut Vec<Case>) {
     let enough = n - 1;
     let short = enough.saturating_sub(1);
     for (counts, losses) in [(enough, enough), (n, n + 1), (short, n), (n, short)] {
-        let sizes = on_record("sizes", &record, 8 * n + 3);
+        let sizes = on_record("sizes", &old, 8 * n + 3);
         cases.push(sizes.with("counts", counts).with("losses", losses));
     }
 }
@@ -133,7 +137,7 @@ fn entries(cases: &mut Vec<Case>) {
     let plates = [
         Plate::new(6, 1, |p| [0, 1, 2, 3, 4, 255][p as usize]),
         Plate::new(3, 2, |p| apart[p as usize]),
-        Plate::new(1, 7, |p| p as u8),
+        Plate::new(1, 7, |p| p as u16),
         Plate::small(),
     ];
     for plate in plates {
@@ -150,19 +154,27 @@ fn entries(cases: &mut Vec<Case>) {
 
 /// The operations on a plate, cleaning once for each side: cases that still
 /// lack the plate.
-fn operations() -> impl Iterator<Item = Case<'static>> {
+pub fn operations() -> impl Iterator<Item = Case<'static>> {
     let others = ["maxima", "nodes", "entries", "write", "joint"];
     SIDES.map(cleaning).into_iter().chain(others.map(Case::new))
 }
 
 /// An operation's case on the small plate, with these places for anything.
-fn small(begun: Case<'static>, connectivity: u32, limit: u32, places: usize) -> Case<'static> {
+pub fn small(begun: Case<'static>, connectivity: u32, limit: u32, places: usize) -> Case<'static> {
     let case = Plate::small().added_to(begun, connectivity);
-    places_of(case.with("limit", limit), places)
+    places_of(limited_to(case, limit), places)
+}
+
+/// The case with this limit, if its operation takes one.
+pub fn limited_to(case: Case<'static>, limit: u32) -> Case<'static> {
+    match case.name {
+        "clean" | "joint" => case.with("limit", limit),
+        _ => case,
+    }
 }
 
 /// The case with so many places for each of its outputs.
-fn places_of(case: Case<'static>, places: usize) -> Case<'static> {
+pub fn places_of(case: Case<'static>, places: usize) -> Case<'static> {
     let outputs: &[&'static str] = match case.name {
         "nodes" => &COLUMNS,
         "entries" => &[],
@@ -202,7 +214,7 @@ fn parameters(cases: &mut Vec<Case>) {
             cases.push(base().with("width", width).with("height", height));
         }
         for limit in [0, 13, 65_536, most] {
-            cases.push(base().with("limit", limit));
+            cases.push(limited_to(base(), limit));
         }
         for places in [0, 1, 11, 12] {
             cases.push(places_of(base(), places));
@@ -213,7 +225,7 @@ fn parameters(cases: &mut Vec<Case>) {
         for length in [0, 1, 11, 13] {
             let mut greys = Plate::small().greys;
             greys.resize(length, 10);
-            cases.push(base().on(&greys));
+            cases.push(base().painted(&greys));
         }
     }
 }
@@ -249,10 +261,10 @@ pub fn meeting_later(begun: Case<'static>, connectivity: u32, met: u32) -> Case<
         case = case.with("height", 0);
     }
     if met & 4 != 0 {
-        case = case.on(&Plate::small().greys[..11]);
+        case = case.painted(&Plate::small().greys[..11]);
     }
     if met & 8 != 0 {
-        case = case.with("limit", 0);
+        case = limited_to(case, 0);
     }
     if met & 32 != 0 {
         case = case.with("work", 95);
@@ -277,13 +289,13 @@ fn large(cases: &mut Vec<Case>) {
         for limit in [1, 255, 256, 65_535, 65_536, 65_537] {
             cases.push(plate.limited(cleaning(LIGHT), 4, limit));
         }
-        let (nodes, record) = plate.described(8);
+        let Described { nodes, record, old } = plate.described(8);
         cases.push(with_columns(plate.case("nodes", 8), nodes));
         cases.push(plate.case("entries", 8).with("at", 1));
         cases.push(plate.case("write", 8).with("out", record.len()));
-        let cut = on_record("cut", &record, 8 * n);
+        let cut = on_record("cut", &old, 8 * n);
         cases.push(cut.with("limit", 65_536).with("out", n));
-        let sizes = on_record("sizes", &record, 8 * n);
+        let sizes = on_record("sizes", &old, 8 * n);
         cases.push(sizes.with("counts", n).with("losses", n));
     }
 }

@@ -35,7 +35,7 @@ fn plates() -> [Plate; 3] {
     [
         Plate::new(4, 3, |p| corners[p as usize]),
         Plate::new(4, 3, |p| specks[p as usize]),
-        Plate::new(6, 4, |p| (p * 7 % 16 * 17) as u8),
+        Plate::new(6, 4, |p| (p * 7 % 16 * 17) as u16),
     ]
 }
 

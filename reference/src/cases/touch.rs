@@ -1,7 +1,7 @@
 //! Plates on which the kinds of touch differ, and plates with light pixels that
 //! touch only if an edge wraps.
 
-use super::{cleaning, joint::ample, plates::with_columns, sides::pair, Case, Plate};
+use super::{cleaning, joint::ample, plates::with_columns, sides::pair, Case, Described, Plate};
 use crate::{CONNECTIVITIES, LIGHT};
 
 /// All of them.
@@ -20,7 +20,7 @@ pub fn plates() -> [Plate; 4] {
     let falling = [0, 0, 0, 0, 0, 9, 0, 0, 0, 0, 9, 0];
     let rising = [0, 0, 0, 0, 0, 0, 9, 0, 0, 9, 0, 0];
     let corners = [9, 0, 0, 9, 0, 0, 0, 0, 9, 0, 0, 9];
-    let of = |greys: [u8; 12]| Plate::new(4, 3, |p| greys[p as usize]);
+    let of = |greys: [u16; 12]| Plate::new(4, 3, |p| greys[p as usize]);
     [of(falling), of(rising), told_apart(), of(corners)]
 }
 
@@ -32,8 +32,8 @@ pub fn told_apart() -> Plate {
 }
 
 /// Each operation that takes a plate.
-fn each_operation(plate: &Plate, connectivity: u32, cases: &mut Vec<Case>) {
-    let (nodes, record) = plate.described(connectivity);
+pub fn each_operation(plate: &Plate, connectivity: u32, cases: &mut Vec<Case>) {
+    let Described { nodes, record, .. } = plate.described(connectivity);
     let case = |name| plate.case(name, connectivity);
     cases.extend(pair(plate, connectivity, 2));
     cases.push(case("maxima").with("out", plate.pixels()));
@@ -44,7 +44,7 @@ fn each_operation(plate: &Plate, connectivity: u32, cases: &mut Vec<Case>) {
 }
 
 /// A plate of three rows and columns, with 9 at one pixel and a grey at another.
-fn two(p: usize, q: usize, grey: u8) -> Plate {
+fn two(p: usize, q: usize, grey: u16) -> Plate {
     let mut plate = Plate::new(3, 3, |_| 0);
     plate.greys[p] = 9;
     plate.greys[q] = grey;

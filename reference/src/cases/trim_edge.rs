@@ -6,7 +6,7 @@ use super::files::{file_of, text};
 use super::joint::ample;
 use super::plates::ring_of;
 use super::touch::told_apart;
-use super::{cleaning, on_record, Case, Plate};
+use super::{cleaning, on_record, Case, Chance, Plate};
 use crate::{CONNECTIVITIES, DARK, LIGHT, SIDES};
 
 /// All of them.
@@ -38,7 +38,7 @@ pub fn cases(cases: &mut Vec<Case>) {
 /// light pixels at the ends of two rows; plates on which the kinds of touch differ;
 /// equal greys apart in a row; steps in a column.
 fn inner_plates() -> [(Plate, &'static [u32]); 6] {
-    let of = |width, height, greys: &[u8]| Plate::new(width, height, |p| greys[p as usize]);
+    let of = |width, height, greys: &[u16]| Plate::new(width, height, |p| greys[p as usize]);
     [
         (Plate::small(), &CONNECTIVITIES),
         (of(3, 2, &[0, 0, 9, 9, 0, 0]), &CONNECTIVITIES),
@@ -59,7 +59,7 @@ fn frames(plate: &Plate) -> [Plate; 3] {
 }
 
 /// The plate in a border of this grey.
-fn framed(plate: &Plate, grey: u8) -> Plate {
+fn framed(plate: &Plate, grey: u16) -> Plate {
     let (width, height) = (plate.width + 2, plate.height + 2);
     Plate::new(width, height, |p| match ring_of(p, width, height) {
         0 => grey,
@@ -70,14 +70,10 @@ fn framed(plate: &Plate, grey: u8) -> Plate {
 /// Random plates: of few greys, and on hills, where each pixel is higher the
 /// farther it is from the edge; one of them a negative.
 fn random_plates() -> [Plate; 5] {
-    let mut random = 3u32;
-    let mut below = move |bound: u32| {
-        random = random.wrapping_mul(1_103_515_245).wrapping_add(12_345);
-        ((random >> 16) % bound) as u8
-    };
-    let mut plate = |width, height, hill: u8, greys: u32| {
+    let mut chance = Chance(3);
+    let mut plate = |width, height, hill: u16, greys: u32| {
         Plate::new(width, height, |p| {
-            ring_of(p, width, height) * hill + below(greys)
+            ring_of(p, width, height) * hill + chance.below(greys) as u16
         })
     };
     [
@@ -99,7 +95,7 @@ fn cleaned(plate: &Plate, connectivity: u32, limits: &[u32], cases: &mut Vec<Cas
 /// The record cut at these limits and its sizes listed; record, cut at 3 and size
 /// list by one call.
 fn recorded(plate: &Plate, connectivity: u32, limits: &[u32], cases: &mut Vec<Case>) {
-    let (_, record) = plate.described(connectivity);
+    let record = plate.described(connectivity).old;
     let n = plate.pixels();
     for &limit in limits {
         let cut = on_record("cut", &record, 8 * n).with("limit", limit);

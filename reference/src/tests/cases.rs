@@ -16,19 +16,21 @@ fn answers(text: &str, name: &str) -> BTreeSet<u32> {
         .collect()
 }
 
-/// The numbers that each operation answers: six on plates, three on records, two
-/// on files.
-const NUMBERS: [(&str, &[u32]); 11] = [
-    ("clean", &[0, 1, 2, 3, 4, 5, 6, 26]),
-    ("maxima", &[0, 1, 2, 3, 5, 6]),
-    ("nodes", &[0, 1, 2, 3, 5, 6]),
-    ("entries", &[0, 1, 2, 3, 5, 6]),
-    ("write", &[0, 1, 2, 3, 5, 6]),
-    ("joint", &[0, 1, 2, 3, 4, 5, 6]),
+/// The numbers that each operation answers: six on plates, three on records that both
+/// forms share, then two conversions, two on files.
+const NUMBERS: [(&str, &[u32]); 13] = [
+    ("clean", &[0, 1, 2, 3, 4, 5, 6, 26, 28, 29]),
+    ("maxima", &[0, 1, 2, 3, 5, 6, 28, 29]),
+    ("nodes", &[0, 1, 2, 3, 5, 6, 28, 29]),
+    ("entries", &[0, 1, 2, 3, 5, 6, 28, 29]),
+    ("write", &[0, 1, 2, 3, 5, 6, 28, 29]),
+    ("joint", &[0, 1, 2, 3, 4, 5, 6, 28, 29]),
     ("read", &[0, 5, 6, 20, 21, 22, 23, 24]),
     ("cut", &[0, 4, 5, 6, 20, 21, 22, 23, 24]),
     ("sizes", &[0, 5, 6, 20, 21, 22, 23, 24]),
-    ("file", &[0, 2, 5, 10, 11, 12, 14, 15]),
+    ("old", &[0, 5, 6, 20, 21, 22, 23, 24, 30]),
+    ("new", &[0, 5, 6, 20, 21, 22, 23, 24]),
+    ("file", &[0, 2, 5, 10, 11, 12, 14, 15, 28]),
     ("header", &[0, 10, 11]),
 ];
 
@@ -68,6 +70,41 @@ fn every_refusal_but_1_occurs_with_connectivity_6() {
     }
 }
 
+/// Is the case on a record of the new form, and past its first two fields?
+fn is_of_new_form(case: &Case) -> bool {
+    case.bytes().starts_with(&[0, 2])
+}
+
+#[test]
+fn every_refusal_of_a_record_occurs_with_either_form() {
+    let cases = cases_text();
+    for (name, numbers) in &NUMBERS[6..11] {
+        let mut expected: BTreeSet<u32> = numbers.iter().copied().collect();
+        let met = chosen_answers(&cases, name, is_of_new_form);
+        assert_eq!(met, expected, "{name}");
+        // a record of the old form has another greatest grey in no case
+        expected.remove(&30);
+        let met = chosen_answers(&cases, name, |case| !case.bytes().starts_with(&[0]));
+        assert_eq!(met, expected, "{name}");
+    }
+}
+
+#[test]
+fn each_greatest_grey_at_which_something_changes_is_there() {
+    let cases = cases_text();
+    for (name, _) in &NUMBERS[..6] {
+        for greatest in [1, 2, 254, 255, 256, 65_535] {
+            let met = chosen_answers(&cases, name, |case| case.number("greatest") == greatest);
+            assert!(met.contains(&0), "{name} {greatest}");
+        }
+        for greatest in [0, 65_536, u32::MAX] {
+            let met = chosen_answers(&cases, name, |case| case.number("greatest") == greatest);
+            assert!(met.contains(&29), "{name} {greatest}");
+            assert!(!met.contains(&0), "{name} {greatest}");
+        }
+    }
+}
+
 #[test]
 fn a_number_that_is_no_connectivity_is_refused_by_1() {
     let cases = cases_text();
@@ -85,11 +122,12 @@ fn a_number_that_is_no_connectivity_is_refused_by_1() {
 #[test]
 fn every_refusal_of_cleaning_occurs_on_both_sides() {
     let cases = cases_text();
-    let sides = [(LIGHT, 0..=6), (DARK, 0..=6)];
-    let neither = [0, 3, u32::MAX].map(|side| (side, 26..=26));
+    let all = [0, 1, 2, 3, 4, 5, 6, 28, 29];
+    let sides = SIDES.map(|side| (side, BTreeSet::from(all)));
+    let neither = [0, 3, u32::MAX].map(|side| (side, BTreeSet::from([26])));
     for (side, numbers) in sides.into_iter().chain(neither) {
         let met = chosen_answers(&cases, "clean", |case| case.number("side") == side);
-        assert_eq!(met, numbers.collect());
+        assert_eq!(met, numbers);
     }
 }
 
@@ -98,9 +136,9 @@ fn a_line_spells_its_case() {
     for line in cases_text().lines() {
         assert_eq!(Case::of(line).line(), format!("{line}\n"));
     }
-    let case = Case::of("clean width 7 bytes 1*3 65535 marker 2 2*2");
+    let case = Case::of("clean width 7 greys 1*3 65535 marker 2 2*2");
     assert_eq!((case.number("width"), case.number("height")), (7, 0));
-    assert_eq!(case.list("bytes"), [1, 1, 1, 65_535]);
+    assert_eq!(case.greys(), [1, 1, 1, 65_535]);
     assert_eq!(case.list("marker"), [2; 3]);
     assert_eq!(case.list("wid"), []);
 }
@@ -122,7 +160,8 @@ fn the_program_holds_every_case() {
     let columns = ["levels", "parents", "areas", "anchors"];
     for line in cases_text().lines() {
         let case = Case::of(line);
-        assert!(case.bytes().len() <= 69_000, "{line}");
+        let longest = case.bytes().len().max(case.greys().len());
+        assert!(longest <= 69_000, "{line}");
         for buffer in buffers.into_iter().chain(columns) {
             let places = case.number(buffer);
             assert!(places <= most_places(&case, buffer), "{line}");
@@ -136,75 +175,78 @@ fn holds(case: &str, line: &str) {
     assert!(cases_text().lines().any(|other| other == case), "{case}");
 }
 
-const SMALL_GREYS: &str = "bytes 10*5 50 30 10*4 90";
+const SMALL_GREYS: &str = "greys 10*5 50 30 10*4 90";
 const SMALL_FIELDS: &str = "4 3 4*2 10 12 1 20 2 1 20 1 3 80 1 0*5 2 1 0*4 3";
 
 #[test]
 fn the_specifications_examples() {
-    let plate = "width 4 height 3 connectivity 4 work 98";
+    let plate = "width 4 height 3 greatest 255 connectivity 4 work 98";
     for limit in [0, 13] {
         let case = format!("clean side 1 {plate} limit {limit} out 13 {SMALL_GREYS}");
-        holds(&case, "clean 4 | 170*13 | 7*98");
+        holds(&case, "clean 4 | 43690*13 | 7*98");
     }
     holds(
-        "clean side 1 width 1 height 1 connectivity 4 work 10 limit 1 out 2 bytes 7",
-        "clean 0 | 7 170 | 0*8 7*2",
+        "clean side 1 width 1 height 1 greatest 255 connectivity 4 work 10 limit 1 out 2 greys 7",
+        "clean 0 | 7 43690 | 0*8 7*2",
     );
     holds(
-        &format!("write {plate} out 27 {SMALL_GREYS}"),
-        &format!("write 0 27 | {SMALL_FIELDS} | 0*96 7*2"),
+        &format!("write {plate} out 31 {SMALL_GREYS}"),
+        &format!("write 0 31 | 0 2 255 1 {SMALL_FIELDS} | 0*96 7*2"),
     );
     // the first byte 132, followed by 0
     holds(
         &format!("read work 97 out 12 bytes 132 0{}", &SMALL_FIELDS[1..]),
-        "read 21 0 0 0 | 170*12 | 7*97",
+        "read 21 0 0 0 0 | 43690*12 | 7*97",
     );
 }
 
 #[test]
 fn a_plate_on_the_light_side_and_its_negative_on_the_dark_side() {
-    let fields = "width 4 height 3 connectivity 4 work 98 limit 3 out 13";
+    let fields = "width 4 height 3 greatest 255 connectivity 4 work 98 limit 3 out 13";
     holds(
-        &format!("clean side 1 {fields} bytes 0*2 9*2 0 9*2 0 9 0*2 9"),
-        "clean 0 | 0*2 9*2 0 9*2 0 9 0*2 9 170 | 0*96 7*2",
+        &format!("clean side 1 {fields} greys 0*2 9*2 0 9*2 0 9 0*2 9"),
+        "clean 0 | 0*2 9*2 0 9*2 0 9 0*2 9 43690 | 0*96 7*2",
     );
     holds(
-        &format!("clean side 2 {fields} bytes 255*2 246*2 255 246*2 255 246 255*2 246"),
-        "clean 0 | 255*2 246*2 255 246*2 255 246 255*2 246 170 | 0*96 7*2",
+        &format!("clean side 2 {fields} greys 255*2 246*2 255 246*2 255 246 255*2 246"),
+        "clean 0 | 255*2 246*2 255 246*2 255 246 255*2 246 43690 | 0*96 7*2",
     );
 }
 
 #[test]
 fn three_kinds_of_touch_and_a_number_that_is_none() {
-    let begun = "clean side 1 width 4 height 3 connectivity";
-    let fields = "work 98 limit 2 out 13 bytes 0 7 0*4 9 0*2 8 0*2";
+    let begun = "clean side 1 width 4 height 3 greatest 255 connectivity";
+    let fields = "work 98 limit 2 out 13 greys 0 7 0*4 9 0*2 8 0*2";
     for (connectivity, plate) in [
         (4, "0 7 0*7 8 0*2"),
         (6, "0 7 0*4 7 0*2 8 0*2"),
         (8, "0 7 0*4 8 0*2 8 0*2"),
     ] {
-        let line = format!("clean 0 | {plate} 170 | 0*96 7*2");
+        let line = format!("clean 0 | {plate} 43690 | 0*96 7*2");
         holds(&format!("{begun} {connectivity} {fields}"), &line);
     }
-    let later = "work 95 limit 0 out 3 bytes 10*5 50 30 10*4";
+    let later = "work 95 limit 0 out 3 greys 10*5 50 30 10*4";
     for unfit in [5, 7] {
-        let shape = format!("width 4 height 0 connectivity {unfit} {later}");
-        holds(&format!("clean side 1 {shape}"), "clean 1 | 170*3 | 7*95");
-        holds(&format!("clean side 3 {shape}"), "clean 26 | 170*3 | 7*95");
+        let shape = format!("width 4 height 0 greatest 255 connectivity {unfit} {later}");
+        holds(&format!("clean side 1 {shape}"), "clean 1 | 43690*3 | 7*95");
+        holds(
+            &format!("clean side 3 {shape}"),
+            "clean 26 | 43690*3 | 7*95",
+        );
     }
 }
 
 #[test]
 fn the_small_plate_as_entries_and_jointly() {
-    let plate = "width 4 height 3 connectivity 4 work 98";
+    let plate = "width 4 height 3 greatest 255 connectivity 4 work 98";
     holds(
         &format!("entries {plate} at 3 {SMALL_GREYS}"),
         "entries 0 4 | 10 0 12 0 | 30 0 2 6 | 50 1*2 5 | 90 0 1 11 | 9*4 | 9*4 | 90 0 1 11 | 0*96 7*2",
     );
     holds(
-        &format!("joint {plate} limit 2 out 13 record 30 counts 12 losses 13 {SMALL_GREYS}"),
+        &format!("joint {plate} limit 2 out 13 record 34 counts 12 losses 13 {SMALL_GREYS}"),
         &format!(
-            "joint 0 27 4 10 80 | {SMALL_FIELDS} 170*3 | 10*5 30*2 10*4 90 170 | \
+            "joint 0 31 4 10 80 | 0 2 255 1 {SMALL_FIELDS} 170*3 | 10*5 30*2 10*4 90 43690 | \
              1*2 0*9 9 | 20 40 0*9 9*2 | 0*96 7*2"
         ),
     );
@@ -218,20 +260,20 @@ fn framed_greys(grey: u8) -> String {
 
 #[test]
 fn the_small_plate_in_a_darker_border() {
-    let fields = "connectivity 4 work 242 limit 2 out 31 bytes";
+    let fields = "greatest 255 connectivity 4 work 242 limit 2 out 31 greys";
     holds(
         &format!(
             "clean side 1 width 6 height 5 {fields} {}",
             framed_greys(10)
         ),
-        "clean 0 | 10*7 11*4 10*2 11 31*2 11 10*2 11*4 10*7 170 | 0*240 7*2",
+        "clean 0 | 10*7 11*4 10*2 11 31*2 11 10*2 11*4 10*7 43690 | 0*240 7*2",
     );
     // the whole small plate is a node of area 12 and rise 1 off the trim edge
     let nodes = "10 30 1*2 12 1 20 2 1 20 1 3 80 1";
     let own = "0*7 1*4 0*2 1 3 2 1 0*2 1*3 4 0*7";
     holds(
         &format!("sizes work 240 counts 29 losses 29 bytes 6 5 4 5 {nodes} {own}"),
-        "sizes 0 6 5 4 5 10 0 | 2 1 0*9 1 0*17 | 100 40 0*9 12 0*17 | 0*240",
+        "sizes 0 6 5 255 4 5 10 0 | 2 1 0*9 1 0*17 | 100 40 0*9 12 0*17 | 0*240",
     );
 }
 
@@ -260,7 +302,7 @@ fn most_different(cases: &str, side: u32, connectivity: u32) -> usize {
         }
         let answer = vectors_text(line);
         if answer.starts_with("clean 0 ") {
-            let plate = (case.number("width"), case.bytes());
+            let plate = (case.number("width"), case.greys());
             made.entry(plate).or_default().insert(answer);
         }
     }
@@ -270,7 +312,7 @@ fn most_different(cases: &str, side: u32, connectivity: u32) -> usize {
 #[test]
 fn the_limits_decide_on_each_side_with_each_connectivity() {
     let cases = cases_text();
-    let small = |line: &&str| Case::of(line).bytes().len() <= 81;
+    let small = |line: &&str| Case::of(line).greys().len() <= 81;
     let cases: Vec<&str> = cases.lines().filter(small).collect();
     for side in SIDES {
         for connectivity in CONNECTIVITIES {
@@ -289,6 +331,6 @@ fn the_second_of_two_images() {
     holds(&format!("header at 16 bytes {images}"), "header 10 0 0 0 0");
     holds(
         &format!("file out 13 bytes {images}"),
-        "file 15 0 0 | 170*13",
+        "file 15 0 0 0 | 43690*13",
     );
 }

@@ -49,16 +49,17 @@ fn holds_trim_edge(grid: &Grid, set: &[usize]) -> bool {
     set.iter().any(|&p| sides(p).count() < 4)
 }
 
-fn least(plate: &[u8], set: &[usize]) -> u8 {
+fn least(plate: &[u16], set: &[usize]) -> u16 {
     set.iter().map(|&p| plate[p]).min().unwrap()
 }
 
-fn greatest(plate: &[u8], set: &[usize]) -> u8 {
+fn lightest(plate: &[u16], set: &[usize]) -> u16 {
     set.iter().map(|&p| plate[p]).max().unwrap()
 }
 
-/// Runs a check on some tiny plates with all their connected sets.
-fn on_tiny_plates(check: fn(&Grid, &[u8], &[Vec<usize>])) {
+/// Runs a check on some tiny plates, each with its greatest grey and all the connected
+/// sets; every second one is of greys 257 times as high.
+fn on_tiny_plates(check: fn(&Grid, &[u16], u32, &[Vec<usize>])) {
     let mut random = Lcg(20);
     let on_the_edge = [(1, 1), (1, 5), (2, 2), (3, 2), (4, 2), (2, 5)];
     let with_pixels_off_it = [(3, 3), (4, 3), (3, 4), (5, 3), (4, 4)];
@@ -68,10 +69,11 @@ fn on_tiny_plates(check: fn(&Grid, &[u8], &[Vec<usize>])) {
             let sets = connected_sets(&grid);
             let rounds = if grid.pixels() < 12 { 60 } else { 10 };
             for round in 0..rounds {
-                let plate: Vec<u8> = (0..grid.pixels())
-                    .map(|_| (random.below(2 + round % 5) * 40) as u8)
+                let times = if round % 2 == 0 { 1 } else { 257 };
+                let plate: Vec<u16> = (0..grid.pixels())
+                    .map(|_| (random.below(2 + round % 5) * 40 * times) as u16)
                     .collect();
-                check(&grid, &plate, &sets);
+                check(&grid, &plate, 255 * times, &sets);
             }
         }
     }
@@ -82,9 +84,9 @@ fn on_tiny_plates(check: fn(&Grid, &[u8], &[Vec<usize>])) {
 /// and with whether it holds one.
 fn best_values(
     (pixels, limit): (usize, usize),
-    sets: &[(&[usize], bool, u8)],
-    best: fn(u8, u8) -> u8,
-) -> Vec<u8> {
+    sets: &[(&[usize], bool, u16)],
+    best: fn(u16, u16) -> u16,
+) -> Vec<u16> {
     let mut values = vec![None; pixels];
     for &(set, on_edge, value) in sets {
         if set.len() >= limit || on_edge {
@@ -100,47 +102,48 @@ fn best_values(
 fn valued<'a>(
     grid: &Grid,
     sets: impl IntoIterator<Item = &'a Vec<usize>>,
-    value: impl Fn(&[usize]) -> u8,
-) -> Vec<(&'a [usize], bool, u8)> {
+    value: impl Fn(&[usize]) -> u16,
+) -> Vec<(&'a [usize], bool, u16)> {
     let valued = |set: &'a Vec<usize>| (&set[..], holds_trim_edge(grid, set), value(set));
     sets.into_iter().map(valued).collect()
 }
 
 #[test]
 fn cleaned_values_go_by_connected_sets() {
-    on_tiny_plates(|grid, plate, sets| {
+    on_tiny_plates(|grid, plate, m, sets| {
         let (w, h, c) = (grid.width as u32, grid.height as u32, grid.connectivity);
         let n = grid.pixels();
         let by_least = valued(grid, sets, |set| least(plate, set));
-        let by_greatest = valued(grid, sets, |set| greatest(plate, set));
+        let by_lightest = valued(grid, sets, |set| lightest(plate, set));
         for limit in 1..=n {
-            let light = best_values((n, limit), &by_least, u8::max);
-            assert_eq!(cleaned(LIGHT, plate, w, h, c, limit as u32), light);
-            let dark = best_values((n, limit), &by_greatest, u8::min);
-            assert_eq!(cleaned(DARK, plate, w, h, c, limit as u32), dark);
+            let light = best_values((n, limit), &by_least, u16::max);
+            assert_eq!(cleaned(LIGHT, plate, w, h, m, c, limit as u32), light);
+            let dark = best_values((n, limit), &by_lightest, u16::min);
+            assert_eq!(cleaned(DARK, plate, w, h, m, c, limit as u32), dark);
         }
     });
 }
 
 /// The nodes among the sets: the components of "grey at least t" for some t.
-fn literal_nodes<'a>(grid: &Grid, plate: &[u8], sets: &'a [Vec<usize>]) -> Vec<&'a Vec<usize>> {
+fn literal_nodes<'a>(grid: &Grid, plate: &[u16], sets: &'a [Vec<usize>]) -> Vec<&'a Vec<usize>> {
     let is_node = |set: &&Vec<usize>| {
         let (inside, around) = (least(plate, set), outside(grid, set));
-        (0..=255).any(|t| inside >= t && around.iter().all(|&p| plate[p] < t))
+        let parts = |t: u16| inside >= t && around.iter().all(|&p| plate[p] < t);
+        (0..=255).any(|t| parts(t) || parts(257 * t))
     };
     sets.iter().filter(is_node).collect()
 }
 
 #[test]
 fn cuts_and_lists_go_by_the_nodes() {
-    on_tiny_plates(|grid, plate, sets| {
+    on_tiny_plates(|grid, plate, m, sets| {
         let (w, h, c) = (grid.width as u32, grid.height as u32, grid.connectivity);
         let n = grid.pixels();
-        let record = written(plate, w, h, c);
+        let record = written(plate, w, h, m, c);
         let nodes = literal_nodes(grid, plate, sets);
         let levels = valued(grid, nodes.iter().copied(), |set| least(plate, set));
         let total = |limit| -> u64 {
-            let cut = best_values((n, limit), &levels, u8::max);
+            let cut = best_values((n, limit), &levels, u16::max);
             assert_eq!(cut_back(&record, limit as u32, n).1, cut);
             cut.into_iter().map(u64::from).sum()
         };
@@ -159,7 +162,7 @@ fn cuts_and_lists_go_by_the_nodes() {
 
 #[test]
 fn nodes_are_the_components_of_some_t() {
-    on_tiny_plates(|grid, plate, sets| {
+    on_tiny_plates(|grid, plate, _, sets| {
         let literal = literal_nodes(grid, plate, sets);
         let nodes = nodes_of(grid, plate);
         assert_eq!(nodes.len(), literal.len());
@@ -169,7 +172,7 @@ fn nodes_are_the_components_of_some_t() {
 
 #[test]
 fn what_is_named_of_each_node() {
-    on_tiny_plates(|grid, plate, _| {
+    on_tiny_plates(|grid, plate, _, _| {
         let nodes = nodes_of(grid, plate);
         for (i, node) in nodes.iter().enumerate() {
             assert_eq!(node.level, least(plate, &node.pixels));
@@ -195,7 +198,7 @@ fn what_is_named_of_each_node() {
 
 #[test]
 fn each_pixel_has_one_own_node() {
-    on_tiny_plates(|grid, plate, _| {
+    on_tiny_plates(|grid, plate, _, _| {
         let nodes = nodes_of(grid, plate);
         for (p, own) in own_nodes(plate, &nodes).into_iter().enumerate() {
             let fits: Vec<usize> = (0..nodes.len())
@@ -208,7 +211,7 @@ fn each_pixel_has_one_own_node() {
 
 #[test]
 fn maxima_are_flat_zones_with_darker_neighbours() {
-    on_tiny_plates(|grid, plate, sets| {
+    on_tiny_plates(|grid, plate, m, sets| {
         let literal: Vec<&Vec<usize>> = sets
             .iter()
             .filter(|set| set.iter().all(|&p| plate[p] == plate[set[0]]))
@@ -218,7 +221,7 @@ fn maxima_are_flat_zones_with_darker_neighbours() {
         assert_eq!(maxima.len(), literal.len());
         assert!(maxima.iter().all(|zone| literal.contains(&zone)));
         let (w, h) = (grid.width as u32, grid.height as u32);
-        let marks = marked(plate, w, h, grid.connectivity);
+        let marks = marked(plate, w, h, m, grid.connectivity);
         for (p, mark) in marks.into_iter().enumerate() {
             assert_eq!(mark == 1, literal.iter().any(|set| set.contains(&p)));
             assert!(mark <= 1);
@@ -227,12 +230,12 @@ fn maxima_are_flat_zones_with_darker_neighbours() {
 }
 
 #[test]
-fn all_256_thresholds_give_no_other_nodes() {
+fn all_thresholds_give_no_other_nodes() {
     let mut random = Lcg(21);
-    let every: Vec<u8> = (0..=255).collect();
     for round in 0..100 {
-        let (plate, width, height) = random.plate(6);
+        let (plate, width, height) = random.plate_up_to(6, 600);
         let grid = Grid::new(width, height, in_turn(round));
+        let every: Vec<u16> = (0..=600).collect();
         let few = node_sets(&grid, &plate, &grid::thresholds(&plate));
         assert_eq!(few, node_sets(&grid, &plate, &every));
     }
@@ -242,7 +245,7 @@ fn all_256_thresholds_give_no_other_nodes() {
 fn grey_lost_where_no_node_has_the_area_is_zero() {
     let mut random = Lcg(22);
     for round in 0..100 {
-        let (plate, width, height) = random.plate(5);
+        let (plate, width, height, _) = random.plate(5);
         let grid = Grid::new(width, height, in_turn(round));
         let nodes = nodes_of(&grid, &plate);
         let sizes = sizes_of(&grid, &plate, &nodes);

@@ -4,26 +4,30 @@
 use super::helpers::*;
 use crate::*;
 
-/// A plate that is too long for the small plate's width and height.
-const LONG_PLATE: [u8; 13] = [0; 13];
+/// A plate that is too long for the small plate's width and height, and has a pixel
+/// above every greatest grey in use.
+const LONG_PLATE: [u16; 13] = [65_535; 13];
 
 /// Cleaning on a side, the later conditions mended one after another: the
 /// number is `refusal` of the one that the later conditions give.
 fn check_cleaning(side: u32, (fit, unfit): (u32, u32), refusal: fn(u32) -> u32) {
     let cases = [
-        (&LONG_PLATE[..], 0, 3, unfit, 0, 0, 0, 1),
-        (&LONG_PLATE, 0, 3, fit, 0, 0, 0, 2),
-        (&LONG_PLATE, 4, 3, fit, 0, 0, 0, 3),
-        (&SMALL, 4, 3, fit, 0, 0, 0, 4),
-        (&SMALL, 4, 3, fit, 12, 0, 0, 5),
-        (&SMALL, 4, 3, fit, 12, 12, 0, 6),
-        (&SMALL, 4, 3, fit, 12, 12, 96, 0),
+        (&LONG_PLATE[..], [0, 3, 0, unfit], 0, 0, 0, 1),
+        (&LONG_PLATE, [0, 3, 0, fit], 0, 0, 0, 2),
+        (&LONG_PLATE, [4, 3, 0, fit], 0, 0, 0, 29),
+        (&LONG_PLATE, [4, 3, 65_536, fit], 0, 0, 0, 29),
+        (&LONG_PLATE, [4, 3, 89, fit], 0, 0, 0, 3),
+        (&SMALL, [4, 3, 89, fit], 0, 0, 0, 28),
+        (&SMALL, [4, 3, 90, fit], 0, 0, 0, 4),
+        (&SMALL, [4, 3, 90, fit], 12, 0, 0, 5),
+        (&SMALL, [4, 3, 90, fit], 12, 12, 0, 6),
+        (&SMALL, [4, 3, 90, fit], 12, 12, 96, 0),
     ];
-    for (plate, w, h, c, limit, places, entries, number) in cases {
-        let (mut out, mut work) = (vec![BYTE; places], work_of(entries));
-        let cleaning = clean(side, plate, w, h, c, limit, &mut out, &mut work);
+    for (plate, [w, h, m, c], limit, places, entries, number) in cases {
+        let (mut out, mut work) = (vec![GREY; places], work_of(entries));
+        let cleaning = clean(side, plate, w, h, m, c, limit, &mut out, &mut work);
         assert_eq!(cleaning.refusal, refusal(number));
-        let untouched = work_untouched(&work) && out.iter().all(|&byte| byte == BYTE);
+        let untouched = work_untouched(&work) && all_are(&out, GREY);
         assert_eq!(untouched, cleaning.refusal != 0);
     }
 }
@@ -49,16 +53,18 @@ fn the_side_comes_before_every_other_condition() {
 /// The conditions of marking, mended one after another.
 fn check_marking((fit, unfit): (u32, u32)) {
     let cases = [
-        (&LONG_PLATE[..], 0, 3, unfit, 0, 0, 1),
-        (&LONG_PLATE, 0, 3, fit, 0, 0, 2),
-        (&LONG_PLATE, 4, 3, fit, 0, 0, 3),
-        (&SMALL, 4, 3, fit, 0, 0, 5),
-        (&SMALL, 4, 3, fit, 12, 0, 6),
-        (&SMALL, 4, 3, fit, 12, 96, 0),
+        (&LONG_PLATE[..], [0, 3, 0, unfit], 0, 0, 1),
+        (&LONG_PLATE, [0, 3, 0, fit], 0, 0, 2),
+        (&LONG_PLATE, [4, 3, 0, fit], 0, 0, 29),
+        (&LONG_PLATE, [4, 3, 89, fit], 0, 0, 3),
+        (&SMALL, [4, 3, 89, fit], 0, 0, 28),
+        (&SMALL, [4, 3, 90, fit], 0, 0, 5),
+        (&SMALL, [4, 3, 90, fit], 12, 0, 6),
+        (&SMALL, [4, 3, 90, fit], 12, 96, 0),
     ];
-    for (plate, w, h, c, places, entries, number) in cases {
-        let (mut out, mut work) = (vec![BYTE; places], work_of(entries));
-        let marking = regional_maxima(plate, w, h, c, &mut out, &mut work);
+    for (plate, [w, h, m, c], places, entries, number) in cases {
+        let (mut out, mut work) = (vec![GREY; places], work_of(entries));
+        let marking = regional_maxima(plate, w, h, m, c, &mut out, &mut work);
         assert_eq!(marking.refusal, number);
     }
 }
@@ -73,19 +79,24 @@ fn marking_in_order() {
 /// The conditions of the node list and of writing, mended one after another.
 fn check_listing_and_writing((fit, unfit): (u32, u32)) {
     let cases = [
-        (&LONG_PLATE[..], 0, 3, unfit, 0, 0, 1),
-        (&LONG_PLATE, 0, 3, fit, 0, 0, 2),
-        (&LONG_PLATE, 4, 3, fit, 0, 0, 3),
-        (&SMALL, 4, 3, fit, 0, 0, 6),
-        (&SMALL, 4, 3, fit, 0, 96, 5),
-        (&SMALL, 4, 3, fit, 27, 96, 0),
+        (&LONG_PLATE[..], [0, 3, 0, unfit], 0, 0, 1),
+        (&LONG_PLATE, [0, 3, 0, fit], 0, 0, 2),
+        (&LONG_PLATE, [4, 3, 0, fit], 0, 0, 29),
+        (&LONG_PLATE, [4, 3, 89, fit], 0, 0, 3),
+        (&SMALL, [4, 3, 89, fit], 0, 0, 28),
+        (&SMALL, [4, 3, 90, fit], 0, 0, 6),
+        (&SMALL, [4, 3, 90, fit], 0, 96, 5),
+        (&SMALL, [4, 3, 90, fit], 30, 96, 0),
     ];
-    for (plate, w, h, c, places, entries, number) in cases {
+    for (plate, [w, h, m, c], places, entries, number) in cases {
         let (mut out, mut work) = (vec![BYTE; places], work_of(entries));
-        let writing = write_record(plate, w, h, c, &mut out, &mut work);
+        let writing = write_record(plate, w, h, m, c, &mut out, &mut work);
         let mut columns = Columns::of([places; 4]);
-        let listing = node_list(plate, w, h, c, columns.lent(), &mut work);
-        assert_eq!((writing.refusal, listing.refusal), (number, number));
+        let listing = node_list(plate, w, h, m, c, columns.lent(), &mut work);
+        let mut list = vec![NodeEntry::default(); places];
+        let entries = node_entries(plate, w, h, m, c, &mut list, &mut work);
+        let refusals = [writing.refusal, listing.refusal, entries.refusal];
+        assert_eq!(refusals, [number; 3]);
     }
 }
 
@@ -98,7 +109,7 @@ fn listing_and_writing_in_order() {
 
 /// The joint operation over buffers of these lengths (cut, counts, losses, work
 /// space, record) gives this number and leaves the buffers as it says.
-fn check_joint(plate: &[u8], shape: (u32, u32, u32), limit: u32, lengths: [usize; 5], number: u32) {
+fn check_joint(plate: &[u16], shape: [u32; 4], limit: u32, lengths: [usize; 5], number: u32) {
     let [cut, counts, losses, work, record] = lengths;
     let mut lent = Joint::of([record, cut, counts, losses, work]);
     let head = lent.run(plate, shape, limit);
@@ -123,11 +134,13 @@ fn check_joint(plate: &[u8], shape: (u32, u32, u32), limit: u32, lengths: [usize
 #[test]
 fn the_joint_operation_in_order() {
     for (fit, unfit) in FIT_AND_UNFIT {
-        check_joint(&LONG_PLATE, (0, 3, unfit), 0, [0; 5], 1);
-        check_joint(&LONG_PLATE, (0, 3, fit), 0, [0; 5], 2);
-        check_joint(&LONG_PLATE, (4, 3, fit), 0, [0; 5], 3);
+        check_joint(&LONG_PLATE, [0, 3, 0, unfit], 0, [0; 5], 1);
+        check_joint(&LONG_PLATE, [0, 3, 0, fit], 0, [0; 5], 2);
+        check_joint(&LONG_PLATE, [4, 3, 65_536, fit], 0, [0; 5], 29);
+        check_joint(&LONG_PLATE, [4, 3, 89, fit], 0, [0; 5], 3);
+        check_joint(&SMALL, [4, 3, 89, fit], 0, [0; 5], 28);
         let small = |limit, lengths, number| {
-            check_joint(&SMALL, (4, 3, fit), limit, lengths, number);
+            check_joint(&SMALL, [4, 3, 90, fit], limit, lengths, number);
         };
         small(0, [0; 5], 4);
         small(13, [0; 5], 4);
@@ -135,8 +148,8 @@ fn the_joint_operation_in_order() {
         small(12, [12, 10, 11, 0, 0], 5);
         small(12, [12, 11, 10, 0, 0], 5);
         small(12, [12, 11, 11, 95, 0], 6);
-        small(12, [12, 11, 11, 96, 26], 5);
-        small(12, [12, 11, 11, 96, 27], 0);
+        small(12, [12, 11, 11, 96, 29], 5);
+        small(12, [12, 11, 11, 96, 30], 0);
     }
 }
 
@@ -161,26 +174,30 @@ fn headers_in_order() {
 
 #[test]
 fn plate_files_in_order() {
-    let cases: [(&[u8], usize, u32); 9] = [
-        (b"p5 x 1 7", 0, 10),
-        (b"P5 0 x 7", 0, 11),
-        (b"P5 0 1 7", 0, 11),
-        (b"P5 0 1 7\n", 0, 2),
-        (b"P5 2 1 7\n", 0, 12),
-        (b"P5 2 1 255\n", 0, 14),
-        (b"P5 2 1 255\nabc", 0, 15),
+    let cases: [(&[u8], usize, u32); 13] = [
+        (b"p5 x 1 0", 0, 10),
+        (b"P5 0 x 0", 0, 11),
+        (b"P5 0 1 0", 0, 11),
+        (b"P5 0 1 0\n", 0, 2),
+        (b"P5 2 1 0\n", 0, 12),
+        (b"P5 2 1 1\na", 0, 14),
+        (b"P5 2 1 1\nabc", 0, 15),
+        (b"P5 2 1 1\nab", 0, 28),
+        (b"P5 2 1 256\nabc", 0, 14),
+        (b"P5 2 1 256\nabcde", 0, 15),
+        (b"P5 2 1 256\nabcd", 0, 28),
         (b"P5 2 1 255\nab", 0, 5),
         (b"P5 2 1 255\nab", 2, 0),
     ];
     for (file, places, number) in cases {
-        let mut out = vec![BYTE; places];
+        let mut out = vec![GREY; places];
         assert_eq!(read_pgm(file, &mut out).refusal, number);
     }
 }
 
 /// The refusals of reading, of cutting at the limit and of the size list.
 fn record_refusals(record: &[u8], limit: u32, places: usize, entries: usize) -> [u32; 3] {
-    let (mut out, mut work) = (vec![BYTE; places], work_of(entries));
+    let (mut out, mut work) = (vec![GREY; places], work_of(entries));
     let (mut counts, mut losses) = (vec![WORD; places], vec![LONG; places]);
     [
         read_record(record, &mut out, &mut work).refusal,
@@ -229,10 +246,10 @@ fn work_space_behind_and_ahead_of_6() {
     for before in beginnings() {
         for tail in [&[][..], &[128, 0], &[255, 255, 127]] {
             let record = [before, tail].concat();
-            let (mut out, mut work) = ([BYTE; 12], work_of(99));
+            let (mut out, mut work) = ([GREY; 12], work_of(99));
             let answer = read_record(&record, &mut out, &mut work);
             assert!(matches!(answer.refusal, 20..=22));
-            assert_eq!(out, [BYTE; 12]);
+            assert_eq!(out, [GREY; 12]);
             assert!(if before.len() < 4 {
                 work_untouched(&work)
             } else {

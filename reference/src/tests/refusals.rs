@@ -25,19 +25,19 @@ fn the_grid_refuses_for_every_operation_on_a_plate() {
     let unfit = UNFIT.map(|number| (4, 3, number, 12, 1));
     for (w, h, c, length, number) in BAD_HEADS.into_iter().chain(unfit) {
         let plate = vec![10; length];
-        let (mut out, mut work) = (vec![BYTE; 200], work_of(400));
+        let (mut out, mut record, mut work) = (vec![GREY; 200], vec![BYTE; 200], work_of(400));
         let mut columns = Columns::of([20; 4]);
-        let light = clean(LIGHT, &plate, w, h, c, 1, &mut out, &mut work);
-        let dark = clean(DARK, &plate, w, h, c, 1, &mut out, &mut work);
-        let marking = regional_maxima(&plate, w, h, c, &mut out, &mut work);
-        let listing = node_list(&plate, w, h, c, columns.lent(), &mut work);
-        let writing = write_record(&plate, w, h, c, &mut out, &mut work);
+        let light = clean(LIGHT, &plate, w, h, 255, c, 1, &mut out, &mut work);
+        let dark = clean(DARK, &plate, w, h, 255, c, 1, &mut out, &mut work);
+        let marking = regional_maxima(&plate, w, h, 255, c, &mut out, &mut work);
+        let listing = node_list(&plate, w, h, 255, c, columns.lent(), &mut work);
+        let writing = write_record(&plate, w, h, 255, c, &mut record, &mut work);
         assert_eq!((light.refusal, dark.refusal), (number, number));
         assert_eq!(marking.refusal, number);
         assert_eq!((listing.refusal, listing.count), (number, 0));
         assert_eq!((writing.refusal, writing.length), (number, 0));
         assert_eq!(columns, Columns::of([20; 4]));
-        assert!(out.iter().all(|&byte| byte == BYTE) && work_untouched(&work));
+        assert!(all_are(&out, GREY) && all_are(&record, BYTE) && work_untouched(&work));
     }
 }
 
@@ -52,10 +52,20 @@ fn the_greatest_grids_are_within() {
 /// is refused by this number, the buffers untouched.
 fn cleaning_refuses(side: u32, limit: u32, places: usize, entries: usize, number: u32) {
     for connectivity in CONNECTIVITIES {
-        let (mut out, mut work) = (vec![BYTE; places], work_of(entries));
-        let cleaning = clean(side, &SMALL, 4, 3, connectivity, limit, &mut out, &mut work);
+        let (mut out, mut work) = (vec![GREY; places], work_of(entries));
+        let cleaning = clean(
+            side,
+            &SMALL,
+            4,
+            3,
+            255,
+            connectivity,
+            limit,
+            &mut out,
+            &mut work,
+        );
         assert_eq!(cleaning.refusal, number);
-        assert_eq!(out, vec![BYTE; places]);
+        assert_eq!(out, vec![GREY; places]);
         assert!(work_untouched(&work));
     }
 }
@@ -82,10 +92,10 @@ fn cleaning_refuses_other_sides_by_26() {
 fn marking_refuses_5_and_6() {
     for connectivity in CONNECTIVITIES {
         for (places, entries, number) in [(11, 96, 5), (12, 95, 6)] {
-            let (mut out, mut work) = (vec![BYTE; places], work_of(entries));
-            let marking = regional_maxima(&SMALL, 4, 3, connectivity, &mut out, &mut work);
+            let (mut out, mut work) = (vec![GREY; places], work_of(entries));
+            let marking = regional_maxima(&SMALL, 4, 3, 255, connectivity, &mut out, &mut work);
             assert_eq!(marking.refusal, number);
-            assert_eq!(out, vec![BYTE; places]);
+            assert_eq!(out, vec![GREY; places]);
             assert!(work_untouched(&work));
         }
     }
@@ -97,7 +107,7 @@ fn the_node_list_refuses_6_then_5() {
         let list = |lengths: [usize; 4], entries: usize| {
             let mut columns = Columns::of(lengths);
             let mut work = work_of(entries);
-            let answer = node_list(&SMALL, 4, 3, connectivity, columns.lent(), &mut work);
+            let answer = node_list(&SMALL, 4, 3, 255, connectivity, columns.lent(), &mut work);
             let untouched = columns == Columns::of(lengths);
             (answer.refusal, answer.count, untouched, work)
         };
@@ -118,26 +128,26 @@ fn the_node_list_refuses_6_then_5() {
 fn writing_refuses_6_then_5() {
     for (connectivity, record) in [(4, SMALL_RECORD), (6, SMALL_RECORD_6)] {
         let write = |out: &mut [u8], work: &mut [u32]| {
-            let answer = write_record(&SMALL, 4, 3, connectivity, out, work);
+            let answer = write_record(&SMALL, 4, 3, 255, connectivity, out, work);
             (answer.refusal, answer.length)
         };
-        let (mut out, mut work) = (vec![BYTE; 26], work_of(95));
+        let (mut out, mut work) = (vec![BYTE; 30], work_of(95));
         assert_eq!(write(&mut out, &mut work), (6, 0));
         assert!(work_untouched(&work));
         let mut work = work_of(99);
         assert_eq!(write(&mut out, &mut work), (5, 0));
-        assert_eq!(out, [BYTE; 26]);
+        assert_eq!(out, [BYTE; 30]);
         assert!(work_zeroed(&work, 12));
-        let mut out = [BYTE; 27];
-        assert_eq!(write(&mut out, &mut work), (0, 27));
-        assert_eq!(out, record);
+        let mut out = [BYTE; 31];
+        assert_eq!(write(&mut out, &mut work), (0, 31));
+        assert_eq!(out[..], in_new_form(&record));
     }
 }
 
 /// The number with which a record of at most 12 pixels is refused by reading,
 /// cutting and the size list alike, their buffers being ample.
 fn record_refusal(record: &[u8]) -> u32 {
-    let (mut out, mut work) = (vec![BYTE; 12], work_of(100));
+    let (mut out, mut work) = (vec![GREY; 12], work_of(100));
     let (mut counts, mut losses) = (vec![WORD; 11], vec![LONG; 11]);
     let reading = read_record(record, &mut out, &mut work);
     let left = work.clone();
@@ -154,7 +164,7 @@ fn record_refusal(record: &[u8]) -> u32 {
     };
     assert_ne!(refusal, 0);
     assert_eq!((reading, cutting, listing), (head, head, sizes));
-    assert_eq!((out, left), (vec![BYTE; 12], work.clone()));
+    assert_eq!((out, left), (vec![GREY; 12], work.clone()));
     assert_eq!((counts, losses), (vec![WORD; 11], vec![LONG; 11]));
     assert!(work_untouched(&work) || work_zeroed(&work, 12));
     if matches!(refusal, 23 | 24) {
@@ -204,8 +214,8 @@ fn a_form_not_shortest_or_too_large_gives_21_at_each_field() {
 #[test]
 fn values_outside_their_range_give_22() {
     let cases: [(usize, u32); 24] = [
-        (0, 0),
         (0, 32_769),
+        (0, 65_536),
         (1, 0),
         (1, 32_769),
         (3, 0),
@@ -298,7 +308,7 @@ fn no_rise_is_valid_above_a_parent_at_255() {
 /// The refusal of reading, with buffers for just so many pixels; and whether
 /// the work space is zeroed.
 fn small_refusal(record: &[u8], pixels: usize) -> (u32, bool) {
-    let (mut out, mut work) = (vec![BYTE; pixels], work_of(8 * pixels + EXCESS));
+    let (mut out, mut work) = (vec![GREY; pixels], work_of(8 * pixels + EXCESS));
     let answer = read_record(record, &mut out, &mut work);
     (answer.refusal, work_zeroed(&work, pixels))
 }
@@ -333,8 +343,8 @@ fn bytes_for_another_connectivity_give_24_or_are_its_record() {
     }
     assert_eq!(record_refusal(&replaced(&SMALL_RECORD_6, 2, &[4])), 24);
     let eight = replaced(&SMALL_RECORD_6, 2, &[8]);
-    assert_eq!(written(&SMALL, 4, 3, 8), eight);
-    assert_eq!(read_back(&eight, 12), (head(4, 3, 8), SMALL.to_vec()));
+    assert_eq!(written(&SMALL, 4, 3, 255, 8), in_new_form(&eight));
+    assert_eq!(read_back(&eight, 12), (head(4, 3, 255, 8), SMALL.to_vec()));
 }
 
 #[test]
@@ -354,7 +364,7 @@ fn nodes_without_pixels_or_out_of_order_give_24() {
 #[test]
 fn reading_cutting_and_the_size_list_refuse_5() {
     for record in SMALL_RECORDS {
-        let (mut out, mut work) = (vec![BYTE; 11], work_of(99));
+        let (mut out, mut work) = (vec![GREY; 11], work_of(99));
         let reading = read_record(&record, &mut out, &mut work);
         assert_eq!((reading.refusal, reading.width), (5, 0));
         assert!(work_zeroed(&work, 12));
@@ -362,7 +372,7 @@ fn reading_cutting_and_the_size_list_refuse_5() {
         let cutting = cut_record(&record, 12, &mut out, &mut work);
         assert_eq!((cutting.refusal, cutting.width), (5, 0));
         assert!(work_zeroed(&work, 12));
-        assert_eq!(out, [BYTE; 11]);
+        assert_eq!(out, [GREY; 11]);
         for (c, l) in [(10, 11), (11, 10), (0, 0)] {
             let (mut counts, mut losses) = (vec![WORD; c], vec![LONG; l]);
             let mut work = work_of(99);
@@ -378,7 +388,7 @@ fn reading_cutting_and_the_size_list_refuse_5() {
 fn short_work_space_gives_6_and_stays_untouched() {
     for record in SMALL_RECORDS {
         for entries in [0, 1, 95] {
-            let (mut out, mut work) = ([BYTE; 12], work_of(entries));
+            let (mut out, mut work) = ([GREY; 12], work_of(entries));
             let (mut counts, mut losses) = ([WORD; 11], [LONG; 11]);
             let reading = read_record(&record, &mut out, &mut work);
             let cutting = cut_record(&record, 0, &mut out, &mut work);
@@ -386,7 +396,7 @@ fn short_work_space_gives_6_and_stays_untouched() {
             assert_eq!(reading.refusal, 6);
             assert_eq!(cutting.refusal, 6);
             assert_eq!(listing.refusal, 6);
-            assert_eq!((out, counts, losses), ([BYTE; 12], [WORD; 11], [LONG; 11]));
+            assert_eq!((out, counts, losses), ([GREY; 12], [WORD; 11], [LONG; 11]));
             assert!(work_untouched(&work));
         }
     }
@@ -407,13 +417,18 @@ fn varints_spell_and_read_back() {
 
 /// The refusal of a plate file, with an output of so many places.
 fn file_refusal(file: &[u8], places: usize) -> u32 {
-    let mut out = vec![BYTE; places];
+    let mut out = vec![GREY; places];
     let answer = read_pgm(file, &mut out);
-    if answer.refusal != 0 {
-        assert_eq!((answer.width, answer.height), (0, 0));
-        assert!(out.iter().all(|&byte| byte == BYTE));
+    let refusal = answer.refusal;
+    if refusal != 0 {
+        let refused = PlateHead {
+            refusal,
+            ..PlateHead::default()
+        };
+        assert_eq!(answer, refused);
+        assert!(all_are(&out, GREY));
     }
-    answer.refusal
+    refusal
 }
 
 #[test]
@@ -433,14 +448,15 @@ fn plate_files_that_are_read() {
         b"P5 #P5\n2 1 #255 \n255 ab",
     ];
     for file in files {
-        let mut out = [BYTE; 5];
+        let mut out = [GREY; 5];
         let answer = read_pgm(file, &mut out);
         assert_eq!((answer.refusal, answer.width, answer.height), (0, 2, 1));
-        assert_eq!(out, [b'a', b'b', BYTE, BYTE, BYTE]);
+        assert_eq!(answer.greatest, 255);
+        assert_eq!(out, [97, 98, GREY, GREY, GREY]);
     }
-    let mut out = [BYTE; 2];
+    let mut out = [GREY; 2];
     assert_eq!(read_pgm(b"P5 2 1 255 # ", &mut out).refusal, 0);
-    assert_eq!(&out, b"# ");
+    assert_eq!(out, [35, 32]);
 }
 
 #[test]
@@ -495,16 +511,23 @@ fn plate_files_refused_with_11() {
 
 #[test]
 fn plate_files_refused_behind_the_header() {
-    let cases: [(&[u8], u32); 12] = [
+    let cases: [(&[u8], u32); 19] = [
         (b"P5 0 1 255 ab", 2),
         (b"P5 2 0 255 ab", 2),
         (b"P5 32769 1 255 ab", 2),
         (b"P5 1 32769 255 ab", 2),
         (b"P5 32768 513 255 ab", 2),
         (b"P5 99999 99999 255 ab", 2),
-        (b"P5 2 1 254 ab", 12),
         (b"P5 2 1 0 ab", 12),
-        (b"P5 2 1 65535 ab", 12),
+        (b"P5 2 1 65536 abcd", 12),
+        (b"P5 2 1 99999 abcd", 12),
+        (b"P5 2 1 65535 ab", 14),
+        (b"P5 2 1 256 abc", 14),
+        (b"P5 2 1 256 abcde", 15),
+        (b"P5 2 1 97 ab", 28),
+        (b"P5 2 1 1 \x01\x02", 28),
+        (b"P5 2 1 256 \x01\x00\x01\x01", 28),
+        (b"P5 2 1 65534 \xff\xff\x00\x00", 28),
         (b"P5 2 1 255 a", 14),
         (b"P5 32768 512 255 ab", 14),
         (b"P5 2 1 255 abc", 15),
@@ -518,11 +541,12 @@ fn plate_files_refused_behind_the_header() {
 
 #[test]
 fn the_text_of_refusals() {
-    let cases: [(&[u8], &str); 7] = [
+    let cases: [(&[u8], &str); 8] = [
         (b"", "refused 10\n"),
         (b"P5 2 1 255", "refused 11\n"),
         (b"P5 0 1 255 ", "refused 2\n"),
-        (b"P5 2 1 25 ab", "refused 12\n"),
+        (b"P5 2 1 0 ab", "refused 12\n"),
+        (b"P5 2 1 25 ab", "refused 28\n"),
         (b"P5 2 1 255 a", "refused 14\n"),
         (b"P5 2 1 255 abc", "refused 15\n"),
         (b"P5 33 32 255 ", "refused 14\n"),
@@ -534,9 +558,9 @@ fn the_text_of_refusals() {
 
 #[test]
 fn the_text_at_1024_pixels_and_4096_bytes() {
-    let most = plate_file(&[3; 1024], 1024, 1);
+    let most = plate_file(&[3; 1024], 1024, 1, 255);
     assert_eq!(sizelist_text(&most), "size 1024 1 4 1\nheld 0\nrest 3 99\n");
-    let beyond = plate_file(&[3; 1025], 1025, 1);
+    let beyond = plate_file(&[3; 1025], 1025, 1, 255);
     assert_eq!(sizelist_text(&beyond), "refused 5\n");
     let comment = vec![b'x'; 4_096 - 3 - 1 - 11];
     let full = [&b"P5 #"[..], &comment, b"\n2 1 255\nab"].concat();

@@ -126,21 +126,21 @@ fn six_is_the_touch_of_bricks() {
 }
 
 /// Rows 0 0 0 0 / 0 9 0 0 / 0 0 9 0.
-const FALLING: [u8; 12] = [0, 0, 0, 0, 0, 9, 0, 0, 0, 0, 9, 0];
+const FALLING: [u16; 12] = [0, 0, 0, 0, 0, 9, 0, 0, 0, 0, 9, 0];
 /// Rows 0 0 0 0 / 0 0 9 0 / 0 9 0 0.
-const RISING: [u8; 12] = [0, 0, 0, 0, 0, 0, 9, 0, 0, 9, 0, 0];
+const RISING: [u16; 12] = [0, 0, 0, 0, 0, 0, 9, 0, 0, 9, 0, 0];
 /// Rows 0 7 0 0 / 0 0 9 0 / 0 8 0 0.
-const BOTH: [u8; 12] = [0, 7, 0, 0, 0, 0, 9, 0, 0, 8, 0, 0];
+const BOTH: [u16; 12] = [0, 7, 0, 0, 0, 0, 9, 0, 0, 8, 0, 0];
 
 /// With a border of 0, so that its light pixels are off the trim edge, the plate
 /// cleaned on the light side is this, and its negative on the dark side the negative
 /// of this.
-fn assert_cleaned(plate: &[u8; 12], connectivity: u32, limit: u32, expected: &[u8; 12]) {
+fn assert_cleaned(plate: &[u16; 12], connectivity: u32, limit: u32, expected: &[u16; 12]) {
     let (plate, expected) = (framed(plate, 4, 0), framed(expected, 4, 0));
-    let light = cleaned(LIGHT, &plate, 6, 5, connectivity, limit);
+    let light = cleaned(LIGHT, &plate, 6, 5, 255, connectivity, limit);
     assert_eq!(light, expected);
-    let dark = cleaned(DARK, &negative(&plate), 6, 5, connectivity, limit);
-    assert_eq!(dark, negative(&expected));
+    let dark = cleaned(DARK, &negative(&plate, 255), 6, 5, 255, connectivity, limit);
+    assert_eq!(dark, negative(&expected, 255));
 }
 
 #[test]
@@ -169,7 +169,7 @@ fn cleaning_tells_the_kinds_apart() {
 #[test]
 fn marks_tell_the_kinds_apart() {
     for (connectivity, maxima) in [(4, &[1, 6, 9][..]), (6, &[6, 9]), (8, &[6])] {
-        let marks = marked(&BOTH, 4, 3, connectivity);
+        let marks = marked(&BOTH, 4, 3, 255, connectivity);
         let found: Vec<usize> = (0..12).filter(|&p| marks[p] == 1).collect();
         assert_eq!(found, maxima);
     }
@@ -182,7 +182,7 @@ fn nodes_tell_the_kinds_apart() {
         (6, [0, 0, 0, 1], [12, 2, 1, 1]),
         (8, [0, 0, 1, 2], [12, 3, 2, 1]),
     ] {
-        let columns = listed(&BOTH, 4, 3, connectivity);
+        let columns = listed(&BOTH, 4, 3, 255, connectivity);
         assert_eq!(columns.levels, [0, 7, 8, 9]);
         assert_eq!(columns.parents, parents);
         assert_eq!(columns.areas, areas);
@@ -192,11 +192,13 @@ fn nodes_tell_the_kinds_apart() {
 
 #[test]
 fn a_record_of_six_by_hand() {
-    let record: [u8; 27] = [
+    let old: [u8; 27] = [
         4, 3, 6, 4, 0, 12, 1, 7, 2, 2, 8, 1, 2, 2, 1, 0, 1, 0, 0, 0, 0, 3, 0, 0, 2, 0, 0,
     ];
-    assert_eq!(written(&BOTH, 4, 3, 6), record);
-    assert_eq!(read_back(&record, 12), (head(4, 3, 6), BOTH.to_vec()));
+    let record = in_new_form(&old);
+    assert_eq!(written(&BOTH, 4, 3, 255, 6), record);
+    assert_eq!(read_back(&old, 12), read_back(&record, 12));
+    assert_eq!(read_back(&record, 12), (head(4, 3, 255, 6), BOTH.to_vec()));
     // pixel 6 alone is small and off the trim edge; pixels 1 and 9 are on it
     for limit in 2..=12 {
         let cut = cut_back(&record, limit, 12).1;
@@ -212,7 +214,7 @@ fn size_lists_tell_the_kinds_apart() {
         (8, [1, 1, 1], [1, 2, 21]),
     ] {
         let plate = framed(&BOTH, 4, 0);
-        let (answer, all_counts, all_losses) = sized(&written(&plate, 6, 5, connectivity), 30);
+        let (answer, all_counts, all_losses) = sized(&written(&plate, 6, 5, 255, connectivity), 30);
         assert_eq!((answer.connectivity, answer.nodes), (connectivity, 4));
         assert_eq!((answer.darkest, answer.held), (0, 0));
         assert_eq!(
@@ -229,7 +231,7 @@ fn size_lists_tell_the_kinds_apart() {
 #[test]
 fn size_lists_on_the_trim_edge_tell_the_kinds_apart() {
     for (connectivity, lost, held) in [(4, 9, 7 + 8), (6, 2, 14 + 8), (8, 1, 21 + 2)] {
-        let (answer, counts, losses) = sized(&written(&BOTH, 4, 3, connectivity), 12);
+        let (answer, counts, losses) = sized(&written(&BOTH, 4, 3, 255, connectivity), 12);
         assert_eq!((answer.nodes, answer.darkest), (4, 0));
         assert_eq!((counts[0], losses[0], answer.held), (1, lost, held));
         assert_eq!((&counts[1..], &losses[1..]), (&[0; 10][..], &[0; 10][..]));
@@ -238,12 +240,13 @@ fn size_lists_on_the_trim_edge_tell_the_kinds_apart() {
 
 #[test]
 fn the_small_plate_and_its_mirror_image_with_six() {
-    let mirrored: Vec<u8> = SMALL
+    let mirrored: Vec<u16> = SMALL
         .chunks(4)
         .flat_map(|row| row.iter().rev().copied())
         .collect();
     for limit in 1..=12 {
-        let of = |plate: &[u8], connectivity| cleaned(LIGHT, plate, 4, 3, connectivity, limit);
+        let of =
+            |plate: &[u16], connectivity| cleaned(LIGHT, plate, 4, 3, 255, connectivity, limit);
         assert_eq!(of(&SMALL, 6), of(&SMALL, 8));
         assert_eq!(of(&mirrored, 6), of(&mirrored, 4));
     }

@@ -14,7 +14,7 @@ use crate::*;
 const OFF_EDGE: [usize; 6] = [6, 7, 8, 11, 12, 13];
 
 /// Four rows of five, all of one grey except these pixels.
-fn all_except(grey: u8, others: &[(usize, u8)]) -> Vec<u8> {
+fn all_except(grey: u16, others: &[(usize, u16)]) -> Vec<u16> {
     let mut plate = vec![grey; 20];
     for &(p, other) in others {
         plate[p] = other;
@@ -24,22 +24,22 @@ fn all_except(grey: u8, others: &[(usize, u8)]) -> Vec<u8> {
 
 /// At every limit from 2 to 20 the plate of four rows of five becomes this: cleaned on
 /// the light side, as a cut, and by negatives on the dark side.
-fn assert_light(plate: &[u8], connectivity: u32, expected: &[u8]) {
-    assert_eq!(cleaned(LIGHT, plate, 5, 4, connectivity, 1), plate);
-    let record = written(plate, 5, 4, connectivity);
+fn assert_light(plate: &[u16], connectivity: u32, expected: &[u16]) {
+    assert_eq!(cleaned(LIGHT, plate, 5, 4, 255, connectivity, 1), plate);
+    let record = written(plate, 5, 4, 255, connectivity);
     for limit in 2..=20 {
-        let light = cleaned(LIGHT, plate, 5, 4, connectivity, limit);
+        let light = cleaned(LIGHT, plate, 5, 4, 255, connectivity, limit);
         assert_eq!(light, expected);
         assert_eq!(cut_back(&record, limit, 20).1, expected);
-        let dark = cleaned(DARK, &negative(plate), 5, 4, connectivity, limit);
-        assert_eq!(dark, negative(expected));
+        let dark = cleaned(DARK, &negative(plate, 255), 5, 4, 255, connectivity, limit);
+        assert_eq!(dark, negative(expected, 255));
     }
 }
 
 /// At every limit from 2 to 20 the plate cleaned on the dark side becomes this.
-fn assert_dark(plate: &[u8], connectivity: u32, expected: &[u8]) {
+fn assert_dark(plate: &[u16], connectivity: u32, expected: &[u16]) {
     for limit in 2..=20 {
-        let dark = cleaned(DARK, plate, 5, 4, connectivity, limit);
+        let dark = cleaned(DARK, plate, 5, 4, 255, connectivity, limit);
         assert_eq!(dark, expected);
     }
 }
@@ -128,7 +128,7 @@ fn a_node_on_the_edge_stays_and_its_small_child_goes() {
     let expected = all_except(0, &[(5, 30), (6, 30), (7, 30), (8, 30)]);
     for connectivity in CONNECTIVITIES {
         assert_light(&plate, connectivity, &expected);
-        let (answer, counts, losses) = sized(&written(&plate, 5, 4, connectivity), 20);
+        let (answer, counts, losses) = sized(&written(&plate, 5, 4, 255, connectivity), 20);
         assert_eq!((answer.nodes, answer.darkest, answer.held), (3, 0, 120));
         assert_eq!((counts[0], losses[0]), (1, 20));
         assert_eq!((&counts[1..], &losses[1..]), (&[0; 18][..], &[0; 18][..]));
@@ -142,15 +142,16 @@ fn where_every_pixel_is_on_the_edge_cleaning_changes_nothing() {
     for (width, height) in sizes {
         let n = (width * height) as usize;
         for connectivity in CONNECTIVITIES {
-            let plate: Vec<u8> = (0..n).map(|_| random.below(256) as u8).collect();
+            let plate: Vec<u16> = (0..n).map(|_| random.below(256) as u16).collect();
             for limit in 1..=n as u32 {
                 for side in SIDES {
-                    let out = cleaned(side, &plate, width, height, connectivity, limit);
+                    let out = cleaned(side, &plate, width, height, 255, connectivity, limit);
                     assert_eq!(out, plate);
                 }
             }
-            let (answer, counts, losses) = sized(&written(&plate, width, height, connectivity), n);
-            let above = |&grey: &u8| u64::from(grey - answer.darkest);
+            let (answer, counts, losses) =
+                sized(&written(&plate, width, height, 255, connectivity), n);
+            let above = |&grey: &u16| u64::from(grey - answer.darkest);
             assert_eq!(answer.held, plate.iter().map(above).sum::<u64>());
             assert!(counts.iter().all(|&count| count == 0));
             assert!(losses.iter().all(|&loss| loss == 0));
@@ -162,11 +163,19 @@ fn where_every_pixel_is_on_the_edge_cleaning_changes_nothing() {
 fn pixels_on_the_edge_never_change() {
     let mut random = Lcg(51);
     for round in 0..200 {
-        let (plate, width, height) = random.plate(8);
+        let (plate, width, height, greatest) = random.plate(8);
         let grid = Grid::new(width, height, in_turn(round));
         let limit = 1 + random.below(plate.len() as u32);
         for side in SIDES {
-            let out = cleaned(side, &plate, width, height, grid.connectivity, limit);
+            let out = cleaned(
+                side,
+                &plate,
+                width,
+                height,
+                greatest,
+                grid.connectivity,
+                limit,
+            );
             let on_edge = (0..plate.len()).filter(|&p| grid.on_trim_edge(p));
             assert!(on_edge.into_iter().all(|p| out[p] == plate[p]));
         }
@@ -178,7 +187,7 @@ fn pixels_on_the_edge_never_change() {
 #[test]
 fn the_small_plate_in_a_darker_border() {
     let plate = framed(&SMALL, 4, 1);
-    let text = sizelist_text(&plate_file(&plate, 6, 5));
+    let text = sizelist_text(&plate_file(&plate, 6, 5, 255));
     let lines = [
         "size 6 5 4 5",
         "1 2 100",
@@ -189,7 +198,7 @@ fn the_small_plate_in_a_darker_border() {
     ];
     assert_eq!(text, lines.join("\n") + "\n");
     assert_eq!(100 + 40 + 108 + 30, 260 + 18);
-    let at = |limit| cleaned(LIGHT, &plate, 6, 5, 4, limit);
+    let at = |limit| cleaned(LIGHT, &plate, 6, 5, 255, 4, limit);
     assert_eq!(at(1), plate);
     let two = [10, 10, 10, 10, 10, 30, 30, 10, 10, 10, 10, 10];
     assert_eq!(at(2), framed(&two, 4, 1));
@@ -206,7 +215,7 @@ fn the_small_plate_in_a_darker_border() {
 #[test]
 fn the_small_plate_in_a_lighter_border() {
     let plate = framed(&SMALL, 4, 200);
-    let text = sizelist_text(&plate_file(&plate, 6, 5));
+    let text = sizelist_text(&plate_file(&plate, 6, 5, 255));
     let lines = [
         "size 6 5 4 5",
         "1 1 20",
@@ -217,13 +226,13 @@ fn the_small_plate_in_a_lighter_border() {
     assert_eq!(text, lines.join("\n") + "\n");
     assert_eq!(19 * 80 + 18 * 110, 3_500);
     assert_eq!(20 + 40 + 3_500 + 30 * 10, 260 + 18 * 200);
-    let at = |limit| cleaned(DARK, &plate, 6, 5, 4, limit);
+    let at = |limit| cleaned(DARK, &plate, 6, 5, 255, 4, limit);
     // nine pixels of 10; ten to 30, eleven to 50 and all twelve to 90
     for limit in 1..=9 {
         assert_eq!(at(limit), plate);
     }
     for (limit, least) in [(10, 30), (11, 50), (12, 90), (13, 200), (30, 200)] {
-        let raised: Vec<u8> = plate.iter().map(|&grey| grey.max(least)).collect();
+        let raised: Vec<u16> = plate.iter().map(|&grey| grey.max(least)).collect();
         assert_eq!(at(limit), raised);
     }
 }
