@@ -9,7 +9,7 @@ DEMO := target/demo
 DEMO_LIMIT := 17
 # above the pixels of every snowfield of the map
 EDGE_LIMIT := 500
-# the greatest number of pixels in `make bench`, for the proved functions and for the peers
+# the greatest number of pixels in `make bench`, for all and for scikit-image
 BENCH_PIXELS ?= 16777216
 PEER_PIXELS ?= 4194304
 

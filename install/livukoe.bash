@@ -8,6 +8,7 @@ _livukoe_options()
     maxima | record) echo --connectivity --force ;;
     nodes | sizelist) echo --connectivity ;;
     cut) echo --limit --force ;;
+    convert) echo --to --force ;;
     plate) echo --force ;;
     esac
 }
@@ -19,9 +20,11 @@ _livukoe()
     [[ $word == = ]] && word=
     [[ $before == = ]] && before=${COMP_WORDS[COMP_CWORD - 2]}
     if ((COMP_CWORD == 1)); then
-        COMPREPLY=($(compgen -W "clean maxima nodes record plate cut sizelist help version" -- "$word"))
+        COMPREPLY=($(compgen -W "clean maxima nodes record plate cut convert sizelist help version" -- "$word"))
     elif [[ $before == --side ]]; then
         COMPREPLY=($(compgen -W "light dark" -- "$word"))
+    elif [[ $before == --to ]]; then
+        COMPREPLY=($(compgen -W "old new" -- "$word"))
     elif [[ $before == --connectivity ]]; then
         COMPREPLY=($(compgen -W "4 6 8" -- "$word"))
     elif [[ $before == --limit ]]; then

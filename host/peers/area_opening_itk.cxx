@@ -1,4 +1,5 @@
-// area_opening_itk IN.pgm OUT.raw CONNECTIVITY LIMIT RUNS: the best processor time, in seconds, of ITK's area opening.
+// area_opening_itk IN.pgm OUT.raw CONNECTIVITY LIMIT RUNS: the best processor time, in seconds, of ITK's area opening, on
+// unsigned char where the greatest grey is up to 255, else on unsigned short.
 #include "itkAreaOpeningImageFilter.h"
 #include "itkImage.h"
 #include "itkMultiThreaderBase.h"
@@ -8,8 +9,6 @@
 #include <cstdlib>
 #include <ctime>
 
-using Image = itk::Image<unsigned char, 2>;
-
 static double processor_time()
 {
     timespec time;
@@ -17,30 +16,50 @@ static double processor_time()
     return time.tv_sec + 1e-9 * time.tv_nsec;
 }
 
-// Reads a plate file whose header has no comments.
-static Image::Pointer read(const char *name)
+// A plate file whose header has no comments, up to its pixels.
+struct Plate
 {
-    FILE *file = fopen(name, "rb");
-    unsigned long width, height;
-    if (!file || fscanf(file, "P5 %lu %lu 255", &width, &height) != 2)
-        exit(2);
-    fgetc(file);
-    Image::SizeType size = {{width, height}};
-    Image::RegionType region;
+    FILE *file;
+    unsigned long width, height, greatest;
+
+    explicit Plate(const char *name) : file(fopen(name, "rb"))
+    {
+        if (!file || fscanf(file, "P5 %lu %lu %lu", &width, &height, &greatest) != 3)
+            exit(2);
+        fgetc(file);
+    }
+};
+
+// The pixels, each of which has as many bytes as its type, the high one first.
+template <typename Grey>
+static typename itk::Image<Grey, 2>::Pointer read(const Plate &plate)
+{
+    using Image = itk::Image<Grey, 2>;
+    typename Image::SizeType size = {{plate.width, plate.height}};
+    typename Image::RegionType region;
     region.SetSize(size);
     auto image = Image::New();
     image->SetRegions(region);
     image->Allocate();
-    if (fread(image->GetBufferPointer(), 1, width * height, file) != width * height)
-        exit(2);
-    fclose(file);
+    Grey *pixels = image->GetBufferPointer();
+    for (unsigned long p = 0; p < plate.width * plate.height; p++) {
+        unsigned grey = 0;
+        for (size_t byte = 0; byte < sizeof(Grey); byte++) {
+            int next = fgetc(plate.file);
+            if (next == EOF)
+                exit(2);
+            grey = 256 * grey + static_cast<unsigned>(next);
+        }
+        pixels[p] = static_cast<Grey>(grey);
+    }
     return image;
 }
 
-int main(int, char **words)
+template <typename Grey>
+static double best_time(const Plate &plate, char **words)
 {
-    itk::MultiThreaderBase::SetGlobalDefaultNumberOfThreads(1);
-    auto image = read(words[1]);
+    using Image = itk::Image<Grey, 2>;
+    auto image = read<Grey>(plate);
     double best = 1e9;
     for (int run = atoi(words[5]); run > 0; run--) {
         auto filter = itk::AreaOpeningImageFilter<Image, Image>::New();
@@ -52,9 +71,16 @@ int main(int, char **words)
         filter->Update();
         best = std::min(best, processor_time() - began);
         FILE *out = fopen(words[2], "wb");
-        auto pixels = image->GetLargestPossibleRegion().GetNumberOfPixels();
-        fwrite(filter->GetOutput()->GetBufferPointer(), 1, pixels, out);
+        fwrite(filter->GetOutput()->GetBufferPointer(), sizeof(Grey), plate.width * plate.height, out);
         fclose(out);
     }
-    printf("%.9f\n", best);
+    return best;
+}
+
+int main(int, char **words)
+{
+    itk::MultiThreaderBase::SetGlobalDefaultNumberOfThreads(1);
+    Plate plate(words[1]);
+    bool bytes = plate.greatest <= 255;
+    printf("%.9f\n", bytes ? best_time<unsigned char>(plate, words) : best_time<unsigned short>(plate, words));
 }

@@ -10,8 +10,9 @@ function, source, target, connectivity, limit, runs = sys.argv[1:]
 with open(source, "rb") as file:
     assert file.readline() == b"P5\n"
     width, height = map(int, file.readline().split())
-    assert file.readline() == b"255\n"
-    plate = numpy.frombuffer(file.read(), dtype=numpy.uint8).reshape(height, width).copy()
+    stored = ">u1" if int(file.readline()) <= 255 else ">u2"
+    plate = numpy.frombuffer(file.read(), dtype=stored).reshape(height, width)
+    plate = plate.astype(plate.dtype.newbyteorder("="))
 
 reach = 1 if connectivity == "4" else 2
 best = float("inf")

@@ -6,15 +6,23 @@
 use std::fmt;
 
 use crate::connectivity::Connectivity;
+use crate::form::RecordForm;
 use crate::refusal::Refusal;
-use crate::{MAX_EXTENT, MAX_PIXELS};
+use crate::{BYTE_GREATEST, MAX_EXTENT, MAX_GREATEST, MAX_PIXELS};
 
-/// What a record's first four fields say.
+/// What the first field of the new form is, as its byte, and what the second is.
+const FIRST: u8 = 0;
+const SECOND: u32 = 2;
+
+/// What a record's first fields say, up to the node count.
 #[derive(Clone, Copy, Debug, PartialEq, Eq)]
 #[non_exhaustive]
 pub struct Head {
+    pub form: RecordForm,
     pub width: u32,
     pub height: u32,
+    /// The greatest grey that a pixel may have; 255 for the old form.
+    pub greatest: u32,
     pub connectivity: Connectivity,
     /// The number of nodes.
     pub nodes: u32,
@@ -71,6 +79,7 @@ struct Fields<'a> {
 
 impl Fields<'_> {
     fn head(&mut self) -> Result<Head, Fault> {
+        let (form, greatest) = self.front()?;
         let width = self.within(1, MAX_EXTENT, || "width".into())?;
         let tallest = MAX_EXTENT.min(MAX_PIXELS as u32 / width);
         let height = self.within(1, tallest, || "height".into())?;
@@ -80,22 +89,41 @@ impl Fields<'_> {
         )?;
         let nodes = self.within(1, width * height, || "node count".into())?;
         Ok(Head {
+            form,
             width,
             height,
+            greatest,
             connectivity: Connectivity::from_number(number).unwrap_or_default(),
             nodes,
         })
     }
 
+    /// The fields that the new form has in front: the form, and the greatest grey.
+    fn front(&mut self) -> Result<(RecordForm, u32), Fault> {
+        if self.bytes.first() != Some(&FIRST) {
+            return Ok((RecordForm::Old, BYTE_GREATEST));
+        }
+        self.at += 1;
+        self.next(
+            |number| number == SECOND,
+            || {
+                let allowed = format!("{SECOND} in the new form");
+                ("second field".into(), allowed)
+            },
+        )?;
+        let greatest = self.within(1, MAX_GREATEST, || "greatest grey".into())?;
+        Ok((RecordForm::New, greatest))
+    }
+
     /// The nodes: the root, then each with its parent's level below it.
     fn nodes(&mut self, head: Head) -> Result<(), Fault> {
-        let pixels = head.pixels() as u32;
-        let mut levels = vec![self.within(0, 255, || "root's level".into())?];
+        let (pixels, greatest) = (head.pixels() as u32, head.greatest);
+        let mut levels = vec![self.within(0, greatest, || "root's level".into())?];
         self.within(1, pixels, || "root's area".into())?;
         for node in 1..head.nodes {
             let step = self.within(1, node, || format!("step of node {node}"))?;
             let parent = levels[(node - step) as usize];
-            let rise = self.within(1, 255 - parent, || format!("rise of node {node}"))?;
+            let rise = self.within(1, greatest - parent, || format!("rise of node {node}"))?;
             self.within(1, pixels, || format!("area of node {node}"))?;
             levels.push(parent + rise);
         }

@@ -36,6 +36,7 @@ impl Joint {
             refusal: 0,
             width: image.width,
             height: image.height,
+            greatest: image.greatest,
             connectivity: image.connectivity,
             nodes: answer.nodes,
             darkest: answer.darkest,
@@ -43,7 +44,7 @@ impl Joint {
         };
         Ok(Joint {
             record: Record::written(bytes, answer.length),
-            cut: Plate::new(image.width, image.height, out),
+            cut: Plate::new(image.width, image.height, image.greatest, out),
             sizes: SizeList::new(head, counts, losses),
         })
     }

@@ -6,40 +6,43 @@
 //! refusal ahead of it is answered.
 
 mod c {
-    use super::{JointHead, Node, NodeCount, PlateHead, RecordHead, RecordLength, SizeHead};
+    use super::{Ink, JointHead, Node, NodeCount, PlateHead, RecordHead, RecordLength, SizeHead};
 
     extern "C" {
         pub fn livukoe_clean(
             side: u32,
-            image: *const u8,
+            image: *const u16,
             image_length: usize,
             width: u32,
             height: u32,
+            greatest: u32,
             connectivity: u32,
             limit: u32,
-            out: *mut u8,
+            out: *mut u16,
             out_length: usize,
             work: *mut u32,
             work_length: usize,
         ) -> u32;
 
         pub fn livukoe_regional_maxima(
-            image: *const u8,
+            image: *const u16,
             image_length: usize,
             width: u32,
             height: u32,
+            greatest: u32,
             connectivity: u32,
-            out: *mut u8,
+            out: *mut u16,
             out_length: usize,
             work: *mut u32,
             work_length: usize,
         ) -> u32;
 
         pub fn livukoe_node_list(
-            image: *const u8,
+            image: *const u16,
             image_length: usize,
             width: u32,
             height: u32,
+            greatest: u32,
             connectivity: u32,
             levels: *mut u32,
             levels_length: usize,
@@ -54,10 +57,11 @@ mod c {
         ) -> NodeCount;
 
         pub fn livukoe_node_entries(
-            image: *const u8,
+            image: *const u16,
             image_length: usize,
             width: u32,
             height: u32,
+            greatest: u32,
             connectivity: u32,
             list: *mut Node,
             list_length: usize,
@@ -68,15 +72,16 @@ mod c {
         pub fn livukoe_read_pgm(
             file: *const u8,
             file_length: usize,
-            out: *mut u8,
+            out: *mut u16,
             out_length: usize,
         ) -> PlateHead;
 
         pub fn livukoe_write_record(
-            image: *const u8,
+            image: *const u16,
             image_length: usize,
             width: u32,
             height: u32,
+            greatest: u32,
             connectivity: u32,
             out: *mut u8,
             out_length: usize,
@@ -87,7 +92,7 @@ mod c {
         pub fn livukoe_read_record(
             bytes: *const u8,
             bytes_length: usize,
-            out: *mut u8,
+            out: *mut u16,
             out_length: usize,
             work: *mut u32,
             work_length: usize,
@@ -97,7 +102,7 @@ mod c {
             bytes: *const u8,
             bytes_length: usize,
             limit: u32,
-            out: *mut u8,
+            out: *mut u16,
             out_length: usize,
             work: *mut u32,
             work_length: usize,
@@ -114,16 +119,35 @@ mod c {
             work_length: usize,
         ) -> SizeHead;
 
+        pub fn livukoe_record_to_old(
+            bytes: *const u8,
+            bytes_length: usize,
+            out: *mut u8,
+            out_length: usize,
+            work: *mut u32,
+            work_length: usize,
+        ) -> RecordLength;
+
+        pub fn livukoe_record_to_new(
+            bytes: *const u8,
+            bytes_length: usize,
+            out: *mut u8,
+            out_length: usize,
+            work: *mut u32,
+            work_length: usize,
+        ) -> RecordLength;
+
         pub fn livukoe_write_cut_list(
-            image: *const u8,
+            image: *const u16,
             image_length: usize,
             width: u32,
             height: u32,
+            greatest: u32,
             connectivity: u32,
             limit: u32,
             bytes: *mut u8,
             bytes_length: usize,
-            out: *mut u8,
+            out: *mut u16,
             out_length: usize,
             counts: *mut u32,
             counts_length: usize,
@@ -133,7 +157,7 @@ mod c {
             work_length: usize,
         ) -> JointHead;
 
-        pub fn livukoe_ink_percentage(grey: u8) -> u8;
+        pub fn livukoe_ink_percentage(grey: u16, greatest: u32) -> Ink;
     }
 }
 
@@ -166,9 +190,10 @@ pub struct PlateHead {
     pub refusal: u32,
     pub width: u32,
     pub height: u32,
+    pub greatest: u32,
 }
 
-/// What writing a record answers: its length in bytes.
+/// What writing a record and converting it answer: its length in bytes.
 #[repr(C)]
 #[derive(Clone, Copy, Debug, Default, PartialEq, Eq)]
 pub struct RecordLength {
@@ -176,23 +201,25 @@ pub struct RecordLength {
     pub length: usize,
 }
 
-/// What reading a record and cutting it answer.
+/// What reading a record and cutting it answer. The greatest grey is 255 for the old form.
 #[repr(C)]
 #[derive(Clone, Copy, Debug, Default, PartialEq, Eq)]
 pub struct RecordHead {
     pub refusal: u32,
     pub width: u32,
     pub height: u32,
+    pub greatest: u32,
     pub connectivity: u32,
 }
 
-/// What the size list answers.
+/// What the size list answers. The greatest grey is 255 for the old form.
 #[repr(C)]
 #[derive(Clone, Copy, Debug, Default, PartialEq, Eq)]
 pub struct SizeHead {
     pub refusal: u32,
     pub width: u32,
     pub height: u32,
+    pub greatest: u32,
     pub connectivity: u32,
     pub nodes: u32,
     pub darkest: u32,
@@ -210,12 +237,21 @@ pub struct JointHead {
     pub held: u64,
 }
 
+/// What the ink percentage answers.
+#[repr(C)]
+#[derive(Clone, Copy, Debug, Default, PartialEq, Eq)]
+pub struct Ink {
+    pub refusal: u32,
+    pub percentage: u32,
+}
+
 /// A plate as a caller has it, with the connectivity that an operation goes by. Nothing is checked here.
 #[derive(Clone, Copy, Debug)]
 pub struct Image<'a> {
-    pub greys: &'a [u8],
+    pub greys: &'a [u16],
     pub width: u32,
     pub height: u32,
+    pub greatest: u32,
     pub connectivity: u32,
 }
 
@@ -232,7 +268,7 @@ pub struct NodeColumns<'a> {
 #[derive(Debug)]
 pub struct JointOutputs<'a> {
     pub bytes: &'a mut [u8],
-    pub out: &'a mut [u8],
+    pub out: &'a mut [u16],
     pub counts: &'a mut [u32],
     pub losses: &'a mut [u64],
 }
@@ -250,8 +286,8 @@ macro_rules! call {
         call!(@ $function, [$($passed,)* $slice.as_mut_ptr(), $slice.len(),] $($rest)*)
     };
     (@ $function:expr, [$($passed:expr,)*] plate $image:ident, $($rest:tt)*) => {{
-        let Image { greys, width, height, connectivity } = $image;
-        call!(@ $function, [$($passed,)*] read greys, width, height, connectivity, $($rest)*)
+        let Image { greys, width, height, greatest, connectivity } = $image;
+        call!(@ $function, [$($passed,)*] read greys, width, height, greatest, connectivity, $($rest)*)
     }};
     (@ $function:expr, [$($passed:expr,)*] $value:ident, $($rest:tt)*) => {
         call!(@ $function, [$($passed,)* $value,] $($rest)*)
@@ -261,12 +297,12 @@ macro_rules! call {
 
 /// Cleans a plate at a limit on a side, 1 for light patches and 2 for dark ones. Patches that reach the trim edge, the
 /// first or last row or column, stay at every limit.
-pub fn clean(side: u32, image: Image, limit: u32, out: &mut [u8], work: &mut [u32]) -> u32 {
+pub fn clean(side: u32, image: Image, limit: u32, out: &mut [u16], work: &mut [u32]) -> u32 {
     call!(c::livukoe_clean, side, plate image, limit, write out, write work)
 }
 
 /// Marks the regional maxima of a plate: 1 inside one, 0 elsewhere.
-pub fn regional_maxima(image: Image, out: &mut [u8], work: &mut [u32]) -> u32 {
+pub fn regional_maxima(image: Image, out: &mut [u16], work: &mut [u32]) -> u32 {
     call!(c::livukoe_regional_maxima, plate image, write out, write work)
 }
 
@@ -289,23 +325,23 @@ pub fn node_entries(image: Image, list: &mut [Node], work: &mut [u32]) -> NodeCo
     call!(c::livukoe_node_entries, plate image, write list, write work)
 }
 
-/// Reads a plate file.
-pub fn read_pgm(file: &[u8], out: &mut [u8]) -> PlateHead {
+/// Reads a plate file. An output of as many numbers as the file has bytes is always long enough.
+pub fn read_pgm(file: &[u8], out: &mut [u16]) -> PlateHead {
     call!(c::livukoe_read_pgm, read file, write out)
 }
 
-/// Writes the record of a plate with its connectivity.
+/// Writes the record of a plate with its connectivity, in the new form.
 pub fn write_record(image: Image, out: &mut [u8], work: &mut [u32]) -> RecordLength {
     call!(c::livukoe_write_record, plate image, write out, write work)
 }
 
-/// Reads a record: its plate.
-pub fn read_record(bytes: &[u8], out: &mut [u8], work: &mut [u32]) -> RecordHead {
+/// Reads a record of either form: its plate.
+pub fn read_record(bytes: &[u8], out: &mut [u16], work: &mut [u32]) -> RecordHead {
     call!(c::livukoe_read_record, read bytes, write out, write work)
 }
 
 /// Cuts a record at a limit: its plate, cleaned on the light side.
-pub fn cut_record(bytes: &[u8], limit: u32, out: &mut [u8], work: &mut [u32]) -> RecordHead {
+pub fn cut_record(bytes: &[u8], limit: u32, out: &mut [u16], work: &mut [u32]) -> RecordHead {
     call!(c::livukoe_cut_record, read bytes, limit, write out, write work)
 }
 
@@ -318,6 +354,16 @@ pub fn size_list(
     work: &mut [u32],
 ) -> SizeHead {
     call!(c::livukoe_size_list, read bytes, write counts, write losses, write work)
+}
+
+/// Converts a record to the old form, which has at most as many bytes.
+pub fn record_to_old(bytes: &[u8], out: &mut [u8], work: &mut [u32]) -> RecordLength {
+    call!(c::livukoe_record_to_old, read bytes, write out, write work)
+}
+
+/// Converts a record to the new form, which has at most 4 bytes more.
+pub fn record_to_new(bytes: &[u8], out: &mut [u8], work: &mut [u32]) -> RecordLength {
+    call!(c::livukoe_record_to_new, read bytes, write out, write work)
 }
 
 /// Writes the record of a plate, cuts it at a limit and lists its sizes, with the exact bytes passed on.
@@ -339,7 +385,7 @@ pub fn write_cut_list(
     )
 }
 
-/// The ink percentage of a grey.
-pub fn ink_percentage(grey: u8) -> u8 {
-    call!(c::livukoe_ink_percentage, grey)
+/// The ink percentage of a grey of plates with this greatest grey.
+pub fn ink_percentage(grey: u16, greatest: u32) -> Ink {
+    call!(c::livukoe_ink_percentage, grey, greatest)
 }

@@ -1,9 +1,10 @@
 //! Verified cleaning of grey images.
 //!
-//! A [`Plate`] is a grey image. [`Plate::clean`] takes away the patches of a [`Side`], light or dark, that are smaller
+//! A [`Plate`] is a grey image of 16-bit greys, from 0 to its greatest grey. [`Plate::clean`] takes away the patches of a [`Side`], light or dark, that are smaller
 //! than a limit and do not reach the border of the plate; [`Plate::regional_maxima`] marks maxima; [`Plate::nodes`] lists
 //! the nodes of the component tree (max-tree). A [`Record`] is the canonical description of a plate: it can be read back,
-//! cut at any limit and turned into a [`SizeList`].
+//! cut at any limit and turned into a [`SizeList`]. It has an old and a new [`RecordForm`], and is converted by
+//! [`Record::to_form`].
 //!
 //! Every answer comes from a function that is proved against its definition. This crate lends those functions buffers
 //! of the right sizes and turns their refusals into [`Refusal`]. It checks nothing a second time, except that a record
@@ -13,7 +14,7 @@
 //! ```
 //! use livukoe::{Connectivity, Plate, Side};
 //!
-//! let plate = Plate::new(4, 3, vec![10, 10, 10, 10, 10, 50, 30, 10, 10, 10, 10, 90]);
+//! let plate = Plate::new(4, 3, 255, vec![10, 10, 10, 10, 10, 50, 30, 10, 10, 10, 10, 90]);
 //! let clean = plate.clean(Side::Light, Connectivity::Four, 2)?;
 //! assert_eq!(clean.greys(), [10, 10, 10, 10, 10, 30, 30, 10, 10, 10, 10, 90]);
 //! # Ok::<(), livukoe::Refusal>(())
@@ -21,6 +22,8 @@
 
 mod connectivity;
 mod fields;
+mod form;
+mod ink;
 mod joint;
 pub mod lent;
 pub mod pictures;
@@ -33,8 +36,10 @@ mod work;
 
 pub use connectivity::Connectivity;
 pub use fields::{Fault, Head};
+pub use form::RecordForm;
+pub use ink::ink_percentage;
 pub use joint::Joint;
-pub use lent::{ink_percentage, Node};
+pub use lent::Node;
 pub use plate::Plate;
 pub use record::Record;
 pub use refusal::{Refusal, UnknownRefusal};
@@ -47,3 +52,9 @@ pub const MAX_EXTENT: u32 = 32_768;
 
 /// The greatest number of pixels of a plate.
 pub const MAX_PIXELS: usize = 16_777_216;
+
+/// The greatest grey that a plate may have as its greatest.
+pub const MAX_GREATEST: u32 = 65_535;
+
+/// The greatest grey of a plate whose greys are bytes, and of every record in the old form.
+pub const BYTE_GREATEST: u32 = 255;

@@ -4,7 +4,7 @@ mod fine;
 mod relief;
 
 use crate::Plate;
-pub use fine::{fine_picture, FINE_GREATEST, FINE_KINDS};
+pub use fine::{fine_picture, FINE_KINDS};
 pub use relief::specked_relief;
 
 /// The names of the pictures.
@@ -35,7 +35,7 @@ pub fn picture(kind: &str, width: u32, height: u32) -> Plate {
         "serpentine" => by_pixel(columns, rows, |x, y| corridor(x, y, columns)),
         _ => panic!("no picture is called {kind}"),
     };
-    Plate::new(width, height, greys)
+    Plate::from_bytes(width, height, &greys)
 }
 
 fn by_pixel(width: usize, height: usize, grey: impl Fn(usize, usize) -> u8) -> Vec<u8> {

@@ -1,30 +1,51 @@
 //! Plates, and the operations on them.
 
+use std::io::{self, Write};
+
 use crate::joint::Joint;
 use crate::lent::{self, Image, Node};
 use crate::record::Record;
 use crate::refusal::Refusal;
 use crate::work::{zeroed_nodes, WorkSpace};
-use crate::{Connectivity, Side, MAX_PIXELS};
+use crate::{Connectivity, Side, BYTE_GREATEST, MAX_EXTENT, MAX_GREATEST, MAX_PIXELS};
 
-/// A grey image: greys row by row from the top left, 0 for full ink to 255 for bare paper.
+/// How many greys of a plate file are made ready at a time.
+const GREYS_AT_A_TIME: usize = 1 << 14;
+
+/// A grey image: greys row by row from the top left, 0 for full ink to the greatest grey, 1 to 65535, for bare paper.
 ///
-/// A plate may have any sizes; an operation refuses those that are beyond the grid or do not fit the greys.
+/// A plate may have any numbers; an operation refuses sizes that are beyond the grid or do not fit the greys, a greatest
+/// grey that is none, and greys above it.
 #[derive(Clone, Debug, PartialEq, Eq)]
 pub struct Plate {
     width: u32,
     height: u32,
-    greys: Vec<u8>,
+    greatest: u32,
+    greys: Vec<u16>,
 }
 
 impl Plate {
-    /// A plate of these sizes and greys.
-    pub fn new(width: u32, height: u32, greys: Vec<u8>) -> Plate {
+    /// A plate of these sizes, with this greatest grey and these greys.
+    pub fn new(width: u32, height: u32, greatest: u32, greys: Vec<u16>) -> Plate {
         Plate {
             width,
             height,
+            greatest,
             greys,
         }
+    }
+
+    /// A plate whose greys are bytes, with the greatest grey 255.
+    ///
+    /// ```
+    /// use livukoe::Plate;
+    ///
+    /// let plate = Plate::from_bytes(2, 1, &[7, 9]);
+    /// assert_eq!(plate, Plate::new(2, 1, 255, vec![7, 9]));
+    /// ```
+    pub fn from_bytes(width: u32, height: u32, bytes: &[u8]) -> Plate {
+        let greys = bytes.iter().map(|&grey| u16::from(grey)).collect();
+        Plate::new(width, height, BYTE_GREATEST, greys)
     }
 
     pub fn width(&self) -> u32 {
@@ -35,54 +56,116 @@ impl Plate {
         self.height
     }
 
-    pub fn greys(&self) -> &[u8] {
+    /// The greatest grey that a pixel may have: bare paper.
+    pub fn greatest(&self) -> u32 {
+        self.greatest
+    }
+
+    pub fn greys(&self) -> &[u16] {
         &self.greys
     }
 
     /// The greys, which are not copied.
     ///
     /// ```
-    /// let plate = livukoe::Plate::new(2, 1, vec![7, 9]);
+    /// let plate = livukoe::Plate::new(2, 1, 255, vec![7, 9]);
     /// assert_eq!(plate.into_greys(), [7, 9]);
     /// ```
-    pub fn into_greys(self) -> Vec<u8> {
+    pub fn into_greys(self) -> Vec<u16> {
         self.greys
     }
 
-    /// Reads a plate file, the binary form of Netpbm's PGM with the greatest grey 255.
+    /// Reads a plate file, the binary form of Netpbm's PGM: a byte for each pixel where the greatest grey is up to 255,
+    /// else two, the high one first.
     ///
     /// ```
-    /// let plate = livukoe::Plate::from_pgm(b"P5 2 1 255\n\x07\x09")?;
-    /// assert_eq!((plate.width(), plate.height()), (2, 1));
+    /// use livukoe::Plate;
+    ///
+    /// let plate = Plate::from_pgm(b"P5 2 1 255\n\x07\x09")?;
+    /// assert_eq!(plate, Plate::new(2, 1, 255, vec![7, 9]));
+    /// let plate = Plate::from_pgm(b"P5 2 1 1000\n\x00\x07\x03\xe8")?;
+    /// assert_eq!(plate, Plate::new(2, 1, 1000, vec![7, 1000]));
     /// # Ok::<(), livukoe::Refusal>(())
     /// ```
     pub fn from_pgm(file: &[u8]) -> Result<Plate, Refusal> {
-        let mut greys = vec![0; file.len().min(MAX_PIXELS)]; // each pixel has a byte in the file
+        let mut greys = vec![0; file.len().min(MAX_PIXELS)]; // each pixel has a byte in the file, or two
         let head = lent::read_pgm(file, &mut greys);
         Refusal::check(head.refusal)?;
         greys.truncate(head.width as usize * head.height as usize);
-        Ok(Plate::new(head.width, head.height, greys))
+        greys.shrink_to_fit();
+        Ok(Plate::new(head.width, head.height, head.greatest, greys))
     }
 
-    /// The header of the plate file that has this plate; the greys follow it.
-    pub fn pgm_header(&self) -> String {
-        format!("P5\n{} {}\n255\n", self.width, self.height)
+    /// Writes the plate file of this plate, which reads back as it. Nothing is written where there is no such file: the
+    /// error then holds the [`Refusal`], 2, 29, 3 or 28.
+    ///
+    /// ```
+    /// use livukoe::Plate;
+    ///
+    /// let mut file = Vec::new();
+    /// Plate::new(2, 1, 255, vec![7, 9]).write_pgm(&mut file)?;
+    /// assert_eq!(file, b"P5\n2 1\n255\n\x07\x09");
+    /// let refused = Plate::new(2, 1, 8, vec![7, 9]).write_pgm(&mut file);
+    /// assert_eq!(refused.unwrap_err().to_string(), "refused 28: a pixel is above the greatest grey");
+    /// # Ok::<(), std::io::Error>(())
+    /// ```
+    pub fn write_pgm(&self, mut out: impl Write) -> io::Result<()> {
+        let refused = |refusal| io::Error::new(io::ErrorKind::InvalidInput, refusal);
+        self.check_file().map_err(refused)?;
+        write!(
+            out,
+            "P5\n{} {}\n{}\n",
+            self.width, self.height, self.greatest
+        )?;
+        for greys in self.greys.chunks(GREYS_AT_A_TIME) {
+            out.write_all(&self.raster(greys))?;
+        }
+        Ok(())
+    }
+
+    /// Greys as a plate file with this greatest grey has them.
+    fn raster(&self, greys: &[u16]) -> Vec<u8> {
+        if self.greatest <= BYTE_GREATEST {
+            greys.iter().map(|&grey| grey as u8).collect()
+        } else {
+            greys.iter().flat_map(|grey| grey.to_be_bytes()).collect()
+        }
+    }
+
+    /// Why there is no plate file of this plate.
+    fn check_file(&self) -> Result<(), Refusal> {
+        let (extent, pixels) = (1..=MAX_EXTENT, self.width as usize * self.height as usize);
+        if !extent.contains(&self.width) || !extent.contains(&self.height) || pixels > MAX_PIXELS {
+            Err(Refusal::Grid)
+        } else if !(1..=MAX_GREATEST).contains(&self.greatest) {
+            Err(Refusal::Greatest)
+        } else if self.greys.len() != pixels {
+            Err(Refusal::PlateLength)
+        } else if self
+            .greys
+            .iter()
+            .any(|&grey| u32::from(grey) > self.greatest)
+        {
+            Err(Refusal::Grey)
+        } else {
+            Ok(())
+        }
     }
 
     /// The plate in a frame of this grey, one pixel wide.
     ///
     /// ```
-    /// let framed = livukoe::Plate::new(2, 1, vec![7, 9]).framed(0);
+    /// let framed = livukoe::Plate::new(2, 1, 255, vec![7, 9]).framed(0);
     /// assert_eq!(framed.greys(), [0, 0, 0, 0, 0, 7, 9, 0, 0, 0, 0, 0]);
     /// assert_eq!(framed.unframed().greys(), [7, 9]);
     /// ```
-    pub fn framed(&self, grey: u8) -> Plate {
+    pub fn framed(&self, grey: u16) -> Plate {
         let line = vec![grey; self.width as usize + 2];
         let rows = self.greys.chunks(self.width.max(1) as usize);
         let rows = rows.flat_map(|row| [&[grey], row, &[grey]].concat());
         let greys = line.iter().copied().chain(rows).chain(line.clone());
         let (width, height) = (self.width.saturating_add(2), self.height.saturating_add(2));
-        Plate::new(width, height, greys.collect())
+        Plate::new(width, height, self.greatest, greys.collect())
     }
 
     /// The plate without its first and last row and column.
@@ -91,7 +174,7 @@ impl Plate {
         let rows = self.greys.chunks(self.width.max(1) as usize).skip(1);
         let rows = rows.take(height as usize);
         let greys = rows.flat_map(|row| row.iter().copied().skip(1).take(width as usize));
-        Plate::new(width, height, greys.collect())
+        Plate::new(width, height, self.greatest, greys.collect())
     }
 
     /// The plate cleaned at a limit: the patches of a side that have fewer pixels are taken away. A patch that reaches
@@ -102,14 +185,14 @@ impl Plate {
     /// two.
     ///
     /// The area opening of the literature has no trim edge. For it clean the plate in a frame, [`Plate::framed`], of 0
-    /// for the light side and of 255 for the dark side: only the frame is then on the trim edge, and no patch inside
-    /// reaches it.
+    /// for the light side and of the greatest grey for the dark side: only the frame is then on the trim edge, and no
+    /// patch inside reaches it.
     ///
     /// ```
     /// use livukoe::{Connectivity, Plate, Side};
     ///
     /// // two light pixels, of which the one in the corner stays
-    /// let plate = Plate::new(3, 3, vec![9, 0, 0, 0, 9, 0, 0, 0, 0]);
+    /// let plate = Plate::new(3, 3, 255, vec![9, 0, 0, 0, 9, 0, 0, 0, 0]);
     /// let clean = plate.clean(Side::Light, Connectivity::Four, 2)?;
     /// assert_eq!(clean.greys(), [9, 0, 0, 0, 0, 0, 0, 0, 0]);
     ///
@@ -129,7 +212,7 @@ impl Plate {
         WorkSpace::new().clean(self, side, connectivity, limit)
     }
 
-    /// The regional maxima: 1 inside one, 0 elsewhere.
+    /// The regional maxima: 1 inside one, 0 elsewhere. The marks are a plate with the same greatest grey.
     pub fn regional_maxima(&self, connectivity: Connectivity) -> Result<Plate, Refusal> {
         WorkSpace::new().regional_maxima(self, connectivity)
     }
@@ -139,7 +222,7 @@ impl Plate {
         WorkSpace::new().nodes(self, connectivity)
     }
 
-    /// The record of this plate with a connectivity.
+    /// The record of this plate with a connectivity, in the new form.
     pub fn record(&self, connectivity: Connectivity) -> Result<Record, Refusal> {
         WorkSpace::new().record(self, connectivity)
     }
@@ -158,6 +241,7 @@ impl Plate {
             greys: &self.greys,
             width: self.width,
             height: self.height,
+            greatest: self.greatest,
             connectivity: connectivity.number(),
         }
     }
@@ -232,11 +316,11 @@ impl WorkSpace {
         &mut self,
         plate: &Plate,
         connectivity: Connectivity,
-        operation: impl FnOnce(Image, &mut [u8], &mut [u32]) -> u32,
+        operation: impl FnOnce(Image, &mut [u16], &mut [u32]) -> u32,
     ) -> Result<Plate, Refusal> {
         let (image, places) = (plate.image(connectivity), plate.places());
         let mut out = vec![0; places];
         Refusal::check(operation(image, &mut out, self.lend(places)))?;
-        Ok(Plate::new(plate.width, plate.height, out))
+        Ok(Plate::new(plate.width, plate.height, plate.greatest, out))
     }
 }

@@ -10,7 +10,7 @@ use std::str::FromStr;
 /// use livukoe::Refusal;
 ///
 /// assert_eq!(Refusal::try_from(4), Ok(Refusal::Limit));
-/// assert_eq!("12".parse(), Ok(Refusal::GreatestGrey));
+/// assert_eq!("12".parse(), Ok(Refusal::FileGreatest));
 /// assert!(Refusal::try_from(13).is_err());
 /// ```
 #[derive(Clone, Copy, Debug, PartialEq, Eq, Hash)]
@@ -24,7 +24,7 @@ pub enum Refusal {
     WorkShort = 6,
     Letters = 10,
     Header = 11,
-    GreatestGrey = 12,
+    FileGreatest = 12,
     RasterShort = 14,
     RasterLong = 15,
     FieldUnended = 20,
@@ -33,10 +33,13 @@ pub enum Refusal {
     RecordLong = 23,
     NotCanonical = 24,
     Side = 26,
+    Grey = 28,
+    Greatest = 29,
+    NoOldForm = 30,
 }
 
 /// Each refusal with what it means.
-const MEANINGS: [(Refusal, &str); 17] = [
+const MEANINGS: [(Refusal, &str); 20] = [
     (Refusal::Connectivity, "the connectivity is not 4, 6 or 8"),
     (
         Refusal::Grid,
@@ -64,8 +67,8 @@ const MEANINGS: [(Refusal, &str); 17] = [
         "the plate file's header lacks a number or a gap, or has one that is malformed",
     ),
     (
-        Refusal::GreatestGrey,
-        "the plate file's greatest grey is not 255",
+        Refusal::FileGreatest,
+        "the plate file's greatest grey is not from 1 to 65535",
     ),
     (
         Refusal::RasterShort,
@@ -93,6 +96,15 @@ const MEANINGS: [(Refusal, &str); 17] = [
         "the record is not the one that its plate has",
     ),
     (Refusal::Side, "the side is neither 1 (light) nor 2 (dark)"),
+    (Refusal::Grey, "a pixel is above the greatest grey"),
+    (
+        Refusal::Greatest,
+        "the greatest grey is not from 1 to 65535",
+    ),
+    (
+        Refusal::NoOldForm,
+        "the record's greatest grey is not 255, so it has no old form",
+    ),
 ];
 
 impl Refusal {

@@ -13,7 +13,7 @@ use crate::refusal::Refusal;
 /// ```
 /// use livukoe::{Connectivity, Plate};
 ///
-/// let plate = Plate::new(4, 3, vec![10, 10, 10, 10, 10, 50, 30, 10, 10, 10, 10, 90]);
+/// let plate = Plate::new(4, 3, 255, vec![10, 10, 10, 10, 10, 50, 30, 10, 10, 10, 10, 90]);
 /// let list = plate.record(Connectivity::Four)?.sizes()?;
 /// let lost: u64 = list.sizes().map(|size| size.loss).sum();
 /// assert_eq!((lost, list.held(), list.darkest()), (60, 80, 10)); // of 60 + 80 + 10 x 12
@@ -66,8 +66,13 @@ impl SizeList {
     }
 
     /// The darkest grey of the plate.
-    pub fn darkest(&self) -> u8 {
-        self.head.darkest as u8
+    pub fn darkest(&self) -> u16 {
+        self.head.darkest as u16
+    }
+
+    /// The greatest grey that a pixel of the plate may have.
+    pub fn greatest(&self) -> u32 {
+        self.head.greatest
     }
 
     /// The grey that stays at every limit, above the darkest: the total grey of the cut at the full limit, which is the
@@ -105,7 +110,7 @@ impl fmt::Display for SizeList {
             writeln!(f, "{area} {count} {loss}")?;
         }
         writeln!(f, "held {held}")?;
-        let ink = lent::ink_percentage(self.darkest());
+        let ink = lent::ink_percentage(self.darkest(), self.greatest()).percentage;
         writeln!(f, "rest {} {ink}", self.darkest())
     }
 }

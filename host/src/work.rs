@@ -22,7 +22,7 @@ pub fn work_space(pixels: usize) -> Vec<u32> {
 /// use livukoe::{Connectivity, Plate, Side, WorkSpace};
 ///
 /// let mut work = WorkSpace::new();
-/// let plate = Plate::new(3, 1, vec![10, 20, 10]);
+/// let plate = Plate::new(3, 1, 255, vec![10, 20, 10]);
 /// let clean = work.clean(&plate, Side::Light, Connectivity::Four, 2)?;
 /// let record = work.record(&clean, Connectivity::Four)?;
 /// assert_eq!(work.plate(&record)?, clean);

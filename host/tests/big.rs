@@ -4,16 +4,22 @@
 mod common;
 
 use common::Chance;
-use livukoe::pictures::{self, picture};
+use livukoe::pictures::{self, fine_picture, picture};
 use livukoe::{Connectivity, Plate, Side};
 
 fn total(plate: &Plate) -> u64 {
     plate.greys().iter().map(|&grey| u64::from(grey)).sum()
 }
 
+/// A plate of the same numbers with other greys.
+fn with_greys(plate: &Plate, greys: Vec<u16>) -> Plate {
+    Plate::new(plate.width(), plate.height(), plate.greatest(), greys)
+}
+
 fn negative(plate: &Plate) -> Plate {
-    let greys = plate.greys().iter().map(|grey| 255 - grey).collect();
-    Plate::new(plate.width(), plate.height(), greys)
+    let greys = plate.greys().iter();
+    let greatest = plate.greatest() as u16;
+    with_greys(plate, greys.map(|grey| greatest - grey).collect())
 }
 
 fn assert_nowhere_lighter(one: &Plate, other: &Plate) {
@@ -84,11 +90,17 @@ fn check_nodes(plate: &Plate, connectivity: Connectivity) {
     assert_eq!(marked, area, "maxima are the leaves");
 }
 
+/// Every picture of bytes and of 16-bit greys.
+fn every_picture(width: u32, height: u32) -> impl Iterator<Item = Plate> {
+    let coarse = pictures::KINDS.map(|kind| picture(kind, width, height));
+    let fine = pictures::FINE_KINDS.map(|kind| fine_picture(kind, width, height));
+    coarse.into_iter().chain(fine)
+}
+
 #[test]
 fn every_kind_of_picture() {
-    for kind in pictures::KINDS {
+    for plate in every_picture(700, 500) {
         for connectivity in Connectivity::ALL {
-            let plate = picture(kind, 700, 500);
             for limit in [1, 2, 64, 65_536, 350_000] {
                 check_cleaning(&plate, connectivity, limit);
             }
@@ -100,34 +112,35 @@ fn every_kind_of_picture() {
 
 /// The plate after half a turn.
 fn turned(plate: &Plate) -> Plate {
-    let greys = plate.greys().iter().rev().copied().collect();
-    Plate::new(plate.width(), plate.height(), greys)
+    with_greys(plate, plate.greys().iter().rev().copied().collect())
 }
 
 /// With more neighbours a cleaned plate is nowhere darker; a turned plate is cleaned as the plate is.
 #[test]
 fn the_kinds_compared() {
-    for kind in pictures::KINDS {
-        let plate = picture(kind, 700, 500);
+    for (number, plate) in every_picture(700, 500).enumerate() {
         let clean = Connectivity::ALL.map(|connectivity| without_light(&plate, connectivity, 64));
         for pair in clean.windows(2) {
             assert_nowhere_lighter(&pair[0], &pair[1]);
         }
         for (connectivity, clean) in Connectivity::ALL.into_iter().zip(clean) {
             let after = without_light(&turned(&plate), connectivity, 64);
-            assert_eq!(turned(&after), clean, "{kind}, {connectivity}");
+            assert_eq!(turned(&after), clean, "picture {number}, {connectivity}");
         }
     }
 }
 
 #[test]
 fn the_largest_plates() {
-    for (kind, width, height) in [
-        ("noise", 4096, 4096),
-        ("terrain", 32_768, 512),
-        ("serpentine", 512, 32_768),
-    ] {
-        let plate = picture(kind, width, height);
+    let makers: [fn() -> Plate; 5] = [
+        || picture("noise", 4096, 4096),
+        || picture("terrain", 32_768, 512),
+        || picture("serpentine", 512, 32_768),
+        || fine_picture("noise", 4096, 4096),
+        || fine_picture("serpentine", 32_768, 512),
+    ];
+    for make in makers {
+        let plate = make();
         check_cleaning(&plate, Connectivity::Four, 65_536);
         check_record(&plate, Connectivity::Eight, 100);
         check_nodes(&plate, Connectivity::Four);
@@ -138,12 +151,55 @@ fn the_largest_plates() {
 #[test]
 fn long_and_thin() {
     for (width, height) in [(32_768, 1), (1, 32_768), (32_768, 2), (3, 32_768)] {
-        let plate = picture("noise", width, height);
-        for connectivity in Connectivity::ALL {
-            check_cleaning(&plate, connectivity, 5);
-            check_record(&plate, connectivity, 5);
+        for make in [picture, fine_picture] {
+            let plate = make("noise", width, height);
+            for connectivity in Connectivity::ALL {
+                check_cleaning(&plate, connectivity, 5);
+                check_record(&plate, connectivity, 5);
+            }
         }
     }
+}
+
+/// The size list of a plate.
+fn size_list(plate: &Plate) -> String {
+    let record = plate.record(Connectivity::Four).expect("a record");
+    record.sizes().expect("a size list").to_string()
+}
+
+/// Losses and what is held, of 16,777,216 pixels of the greatest grey that there is: the total is 1.1 x 10^12.
+#[test]
+fn totals_beyond_32_bits() {
+    const EXTENT: usize = 4096;
+    const PIXELS: usize = EXTENT * EXTENT;
+    const INSIDE: usize = (EXTENT - 2) * (EXTENT - 2);
+    let plate = |grey: &dyn Fn(usize) -> u16| {
+        let greys = (0..PIXELS).map(grey).collect();
+        Plate::new(EXTENT as u32, EXTENT as u32, 65_535, greys)
+    };
+    let light_inside = plate(&|p| {
+        let on_edge = |at| at == 0 || at == EXTENT - 1;
+        if on_edge(p / EXTENT) || on_edge(p % EXTENT) {
+            0
+        } else {
+            65_535
+        }
+    });
+    let loss = INSIDE as u64 * 65_535;
+    assert_eq!(
+        size_list(&light_inside),
+        format!("size 4096 4096 4 2\n{INSIDE} 1 {loss}\nheld 0\nrest 0 100\n")
+    );
+    let one_dark = plate(&|p| if p == PIXELS / 2 + 9 { 0 } else { 65_535 });
+    let held = (PIXELS as u64 - 1) * 65_535;
+    assert_eq!(
+        size_list(&one_dark),
+        format!("size 4096 4096 4 2\nheld {held}\nrest 0 100\n")
+    );
+    assert_eq!(
+        size_list(&plate(&|_| 65_535)),
+        "size 4096 4096 4 1\nheld 0\nrest 65535 0\n"
+    );
 }
 
 /// The width and height of a plate with a patch, and the patch's first pixel.
@@ -157,7 +213,7 @@ fn patch(pixels: usize) -> Plate {
     for i in 0..pixels {
         greys[FIRST + i / inside * EXTENT + i % inside] = 200;
     }
-    Plate::new(EXTENT as u32, EXTENT as u32, greys)
+    Plate::new(EXTENT as u32, EXTENT as u32, 255, greys)
 }
 
 /// A patch stays at every limit up to its area, and goes at the next.
@@ -198,12 +254,12 @@ fn patches_about_65536() {
 fn strewn_patches() {
     let mut chance = Chance::new(13);
     let (width, height) = (1200usize, 900usize);
-    let mut greys = vec![10u8; width * height];
+    let mut greys = vec![10u16; width * height];
     let mut wanted = greys.clone();
     for cell in 0..(width / 10) * (height / 10) {
         let (x, y) = (cell % (width / 10) * 10, cell / (width / 10) * 10);
         let (w, h) = (1 + chance.below(9), 1 + chance.below(9));
-        let grey = 11 + chance.below(240) as u8;
+        let grey = 11 + chance.below(240) as u16;
         for p in (0..w * h).map(|i| (y + i / w) * width + x + i % w) {
             greys[p] = grey;
             if w * h >= 25 || x == 0 || y == 0 {
@@ -211,7 +267,7 @@ fn strewn_patches() {
             }
         }
     }
-    let plate = Plate::new(width as u32, height as u32, greys);
+    let plate = Plate::new(width as u32, height as u32, 255, greys);
     for connectivity in Connectivity::ALL {
         let clean = without_light(&plate, connectivity, 25);
         assert!(clean.greys() == wanted);

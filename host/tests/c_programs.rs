@@ -86,7 +86,7 @@ fn refusals_in_words() {
         Refusal::WorkShort,
         Refusal::Letters,
         Refusal::Header,
-        Refusal::GreatestGrey,
+        Refusal::FileGreatest,
         Refusal::RasterShort,
         Refusal::RasterLong,
         Refusal::FieldUnended,
@@ -95,6 +95,9 @@ fn refusals_in_words() {
         Refusal::RecordLong,
         Refusal::NotCanonical,
         Refusal::Side,
+        Refusal::Grey,
+        Refusal::Greatest,
+        Refusal::NoOldForm,
     ];
     let wanted = |number| match refusals.iter().find(|refusal| refusal.number() == number) {
         Some(refusal) => refusal.to_string(),

@@ -81,9 +81,11 @@ fn two_limits() {
 fn two_plates() {
     let mut changed = 0;
     for (darker, mut chance) in plates(2) {
-        let raise = chance.pick(&[2, 5, 256]);
+        let greatest = darker.greatest as usize;
+        let raise = chance.pick(&[2, 5, greatest + 1]);
         let greys = darker.greys.iter();
-        let raised = greys.map(|grey| grey.saturating_add(chance.below(raise) as u8));
+        let raised =
+            greys.map(|&grey| (usize::from(grey) + chance.below(raise)).min(greatest) as u16);
         let lighter = darker.with(raised.collect());
         let limit = limit(&mut chance, &darker);
         for side in Side::ALL {
@@ -99,6 +101,7 @@ fn largest(kind: &str) -> Plate {
     Plate {
         width: made.width(),
         height: made.height(),
+        greatest: made.greatest(),
         connectivity: Connectivity::Six.number(),
         greys: made.into_greys(),
     }
@@ -139,6 +142,7 @@ fn both_sides_in_turn() {
     let plate = Plate {
         width: 7,
         height: 5,
+        greatest: 9,
         connectivity: 4,
         greys,
     };

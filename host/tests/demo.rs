@@ -16,9 +16,9 @@ const LARGE: &str = "500";
 
 /// Grass and water are no darker and ice is no lighter than this; beyond it is dust. Nothing but ice and dust is lighter
 /// than the third.
-const DARKEST: u8 = 46;
-const LIGHTEST: u8 = 252;
-const ICE: u8 = 234;
+const DARKEST: u16 = 46;
+const LIGHTEST: u16 = 252;
+const ICE: u16 = 234;
 
 /// Runs a program of this crate in the folder of the test.
 fn run(program: &str, words: &[&str]) {
@@ -79,7 +79,7 @@ fn pictures() {
 }
 
 /// The patches of the pixels whose greys are such.
-fn patches(plate: &Plate, such: impl Fn(u8) -> bool) -> Vec<Vec<usize>> {
+fn patches(plate: &Plate, such: impl Fn(u16) -> bool) -> Vec<Vec<usize>> {
     let grid = Grid::new(plate.width(), plate.height(), 4);
     grid.components(&|p| such(plate.greys()[p]))
 }
@@ -95,7 +95,7 @@ fn reaches_border(plate: &Plate, patch: &[usize]) -> bool {
 #[test]
 fn dust_goes() {
     let (before, after) = (plate("before"), plate("after"));
-    let kinds: [fn(u8) -> bool; 2] = [|grey| grey > LIGHTEST, |grey| grey < DARKEST];
+    let kinds: [fn(u16) -> bool; 2] = [|grey| grey > LIGHTEST, |grey| grey < DARKEST];
     for is_dust in kinds {
         let specks = patches(&before, is_dust);
         assert!(specks.len() > 100);

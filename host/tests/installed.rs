@@ -88,7 +88,7 @@ fn every_file() {
         "include/livukoe.h",
         "lib/liblivukoe.a",
         "lib/liblivukoe.so",
-        "lib/liblivukoe.so.3",
+        "lib/liblivukoe.so.4",
         &format!("lib/liblivukoe.so.{VERSION}"),
         "lib/pkgconfig/livukoe.pc",
         "share/bash-completion/completions/livukoe",
@@ -109,7 +109,7 @@ fn the_shared_library() {
     assert_eq!(answer, ANSWER);
     // it runs with the library of that name and with no other
     let lonely = Command::new(&program).output().expect("a run");
-    assert!(String::from_utf8_lossy(&lonely.stderr).contains("liblivukoe.so.3"));
+    assert!(String::from_utf8_lossy(&lonely.stderr).contains("liblivukoe.so.4"));
 }
 
 /// The words that compile a program with what is installed, by its livukoe.pc.
@@ -164,7 +164,7 @@ fn exported_names() {
     assert_eq!(functions, declared().into_iter().collect());
     assert!(names
         .lines()
-        .all(|line| line.contains(" T ") || line.starts_with("LIVUKOE_3")));
+        .all(|line| line.contains(" T ") || line.starts_with("LIVUKOE_4")));
 }
 
 /// The tool runs, and the man page and the completions have each of its commands.
@@ -205,8 +205,9 @@ fn completed(root: &Root, words: &[&str]) -> BTreeSet<String> {
 fn completions() {
     let root = Root::shared();
     let offered = |words: &[&str]| completed(root, words).into_iter().collect::<Vec<_>>();
-    assert_eq!(offered(&["livukoe", "c"]), ["clean", "cut"]);
+    assert_eq!(offered(&["livukoe", "c"]), ["clean", "convert", "cut"]);
     assert_eq!(offered(&["livukoe", "cut", "--"]), ["--force", "--limit"]);
+    assert_eq!(offered(&["livukoe", "convert", "--"]), ["--force", "--to"]);
     assert_eq!(
         offered(&["livukoe", "clean", "--"]),
         ["--connectivity", "--force", "--limit", "--side"]
@@ -214,6 +215,7 @@ fn completions() {
     for (option, values) in [
         ("--connectivity", &["4", "6", "8"][..]),
         ("--side", &["dark", "light"]),
+        ("--to", &["new", "old"]),
     ] {
         assert_eq!(offered(&["livukoe", "clean", option, ""]), values);
         assert_eq!(offered(&["livukoe", "clean", option, "="]), values);

@@ -4,7 +4,7 @@
 
 use std::fs;
 
-use livukoe::{Connectivity, Plate, Record, Refusal, MAX_PIXELS};
+use livukoe::{Connectivity, Plate, Record, RecordForm, Refusal, MAX_PIXELS};
 
 /// The most memory that this process has had, in MiB.
 fn most_mebibytes() -> usize {
@@ -25,16 +25,23 @@ fn what_is_touched() {
         (&[128, 32, 128, 32, 4, 1, 7][..], Refusal::FieldUnended),
         (&[128, 32, 128, 32, 4, 1, 7, 0, 0], Refusal::FieldRange),
         (&[128, 32, 128, 32, 4, 1, 7, 128, 0], Refusal::FieldForm),
+        (
+            &[0, 2, 255, 1, 128, 32, 128, 32, 4, 1, 7],
+            Refusal::FieldUnended,
+        ),
     ] {
         let record = Record::from_bytes(bytes.to_vec());
         assert_eq!(record.plate(), Err(refusal));
         assert_eq!(record.cut(1), Err(refusal));
         assert_eq!(record.sizes(), Err(refusal));
+        for form in RecordForm::ALL {
+            assert_eq!(record.to_form(form), Err(refusal));
+        }
     }
     assert!(most_mebibytes() < 40, "{} MiB", most_mebibytes());
 
-    // the node list of a flat plate has one node: the plate is 16 MiB, its work space 512
-    let plate = Plate::new(4096, 4096, vec![9; MAX_PIXELS]);
+    // the node list of a flat plate has one node: the plate is 32 MiB, its work space 512
+    let plate = Plate::new(4096, 4096, 255, vec![9; MAX_PIXELS]);
     let nodes = plate.nodes(Connectivity::Four).expect("nodes");
     assert_eq!((nodes.len(), nodes.capacity()), (1, 1));
     assert!(most_mebibytes() < 600, "{} MiB", most_mebibytes());

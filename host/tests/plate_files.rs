@@ -13,8 +13,8 @@ fn compare(chance: &mut Chance, file: &[u8], pixels: usize) -> u32 {
     let answer = lent::read_pgm(file, &mut out);
     let wanted = reference::read_pgm(file, &mut out2);
     assert_eq!(
-        (answer.refusal, answer.width, answer.height),
-        (wanted.refusal, wanted.width, wanted.height),
+        [answer.refusal, answer.width, answer.height, answer.greatest],
+        [wanted.refusal, wanted.width, wanted.height, wanted.greatest],
         "{:?}",
         String::from_utf8_lossy(file)
     );
@@ -37,7 +37,9 @@ fn number(chance: &mut Chance, right: u32) -> String {
         0 => format!("{right:05}"),
         1 => format!("{right:06}"),
         2 => chance
-            .pick(&["", "-1", "0", "32768", "32769", "99999", "1x", "25 5"])
+            .pick(&[
+                "", "-1", "0", "1", "256", "32768", "32769", "65536", "99999", "1x", "25 5",
+            ])
             .to_owned(),
         _ => right.to_string(),
     }
@@ -49,19 +51,19 @@ fn headers() {
     for _ in 0..CASES {
         let plate = chance.plate(5);
         let mut file = String::from(chance.pick(&["P5", "P5", "P5", "P5", "P2", "p5", "P"]));
-        for right in [plate.width, plate.height, 255] {
+        for right in [plate.width, plate.height, plate.greatest] {
             file += &gap(&mut chance);
             file += &number(&mut chance, right);
         }
         file += chance.pick(&["\n", "\n", "\n", " ", "\t", "\r", "", "#"]);
         let mut file = file.into_bytes();
-        file.extend(&plate.greys);
+        file.extend(plate.raster());
         if chance.one_in(6) {
             chance.damage(&mut file);
         }
         seen.note(compare(&mut chance, &file, plate.pixels()));
     }
-    seen.assert_all(&[0, 2, 5, 10, 11, 12, 14, 15]);
+    seen.assert_all(&[0, 2, 5, 10, 11, 12, 14, 15, 28]);
 }
 
 #[test]
@@ -73,17 +75,33 @@ fn damaged_files() {
         chance.damage(&mut file);
         seen.note(compare(&mut chance, &file, plate.pixels()));
     }
-    seen.assert_all(&[0, 2, 5, 10, 11, 12, 14, 15]);
+    seen.assert_all(&[0, 2, 5, 10, 11, 12, 14, 15, 28]);
 }
 
 /// Every beginning of a file.
 #[test]
 fn beginnings() {
     let mut chance = Chance::new(7);
-    let file = b"P5 # a comment\n 2\t# and\r\n#another\n3\n255\n123456 and more";
-    for end in 0..=file.len() {
-        compare(&mut chance, &file[..end], 6);
+    for greatest in ["255", "65535"] {
+        let file = format!("P5 # a comment\n 2\t# and\r\n#another\n3\n{greatest}\n123456 and more");
+        for end in 0..=file.len() {
+            compare(&mut chance, &file.as_bytes()[..end], 6);
+        }
     }
+}
+
+/// Every greatest grey that five digits spell, on pixels of each byte and of each pair of bytes.
+#[test]
+fn greatest_greys() {
+    let (mut chance, mut seen) = (Chance::new(21), Seen::default());
+    for greatest in 0..100_000u32 {
+        let bytes = greatest.to_be_bytes();
+        for raster in [&[0][..], &[bytes[3]], &[bytes[2], bytes[3]], &[0xff; 2]] {
+            let file = [format!("P5 1 1 {greatest}\n").as_bytes(), raster].concat();
+            seen.note(compare(&mut chance, &file, 1));
+        }
+    }
+    seen.assert_all(&[0, 5, 12, 14, 15, 28]);
 }
 
 /// 16 MB of comments, or of blanks, ahead of the width, on a stack of 8 MB.

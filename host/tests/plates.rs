@@ -19,8 +19,8 @@ fn extents() -> impl Iterator<Item = usize> {
 /// Compares an operation with one output, over plates by chance.
 fn compare(
     seed: u64,
-    proved: impl Fn(Image, u32, &mut [u8], &mut [u32]) -> u32,
-    reference: impl Fn(&[u8], u32, u32, u32, u32, &mut [u8], &mut [u32]) -> reference::Done,
+    proved: impl Fn(Image, u32, &mut [u16], &mut [u32]) -> u32,
+    reference: impl Fn(&Plate, u32, &mut [u16], &mut [u32]) -> reference::Done,
     refusals: &[u32],
 ) {
     let (mut chance, mut seen) = (Chance::new(seed), Seen::default());
@@ -30,17 +30,8 @@ fn compare(
         let mut out = chance.buffer(plate.pixels());
         let mut work = chance.buffer(8 * plate.pixels());
         let (mut out2, mut work2) = (out.clone(), work.clone());
-        let (width, height, connectivity) = plate.numbers();
         let answer = proved(plate.image(), limit, &mut out, &mut work);
-        let wanted = reference(
-            &plate.greys,
-            width,
-            height,
-            connectivity,
-            limit,
-            &mut out2,
-            &mut work2,
-        );
+        let wanted = reference(&plate, limit, &mut out2, &mut work2);
         assert_eq!(answer, wanted.refusal, "case {case}: {plate:?}, {limit}");
         assert_eq!(out, out2, "case {case}: {plate:?}, {limit}");
         assert_eq!(work, work2, "case {case}: {plate:?}, {limit}");
@@ -54,8 +45,9 @@ fn compare_cleaning(seed: u64, side: u32, refusals: &[u32]) {
     compare(
         seed,
         |image, limit, out, work| lent::clean(side, image, limit, out, work),
-        |greys, width, height, connectivity, limit, out, work| {
-            reference::clean(side, greys, width, height, connectivity, limit, out, work)
+        |plate, limit, out, work| {
+            let (w, h, m, c) = plate.numbers();
+            reference::clean(side, &plate.greys, w, h, m, c, limit, out, work)
         },
         refusals,
     );
@@ -63,12 +55,12 @@ fn compare_cleaning(seed: u64, side: u32, refusals: &[u32]) {
 
 #[test]
 fn cleaning_light() {
-    compare_cleaning(1, reference::LIGHT, &[0, 1, 2, 3, 4, 5, 6]);
+    compare_cleaning(1, reference::LIGHT, &[0, 1, 2, 3, 4, 5, 6, 28, 29]);
 }
 
 #[test]
 fn cleaning_dark() {
-    compare_cleaning(2, reference::DARK, &[0, 1, 2, 3, 4, 5, 6]);
+    compare_cleaning(2, reference::DARK, &[0, 1, 2, 3, 4, 5, 6, 28, 29]);
 }
 
 /// Numbers of no side.
@@ -85,21 +77,24 @@ fn cleaning_neither() {
 #[test]
 fn the_side_comes_first() {
     let greys = [10; 12];
-    let all_right = (4, 3, 4, 2, 12, 96);
+    let all_right = ([4, 3, 255, 4], 2, 12, 96);
     let slips = [
-        (1, (4, 3, 5, 2, 12, 96)),
-        (2, (0, 3, 4, 2, 12, 96)),
-        (3, (4, 2, 4, 2, 12, 96)),
-        (4, (4, 3, 4, 13, 12, 96)),
-        (5, (4, 3, 4, 2, 11, 96)),
-        (6, (4, 3, 4, 2, 12, 95)),
+        (1, ([4, 3, 255, 5], 2, 12, 96)),
+        (2, ([0, 3, 255, 4], 2, 12, 96)),
+        (29, ([4, 3, 0, 4], 2, 12, 96)),
+        (3, ([4, 2, 255, 4], 2, 12, 96)),
+        (28, ([4, 3, 9, 4], 2, 12, 96)),
+        (4, ([4, 3, 255, 4], 13, 12, 96)),
+        (5, ([4, 3, 255, 4], 2, 11, 96)),
+        (6, ([4, 3, 255, 4], 2, 12, 95)),
     ];
     for (refusal, numbers) in slips.into_iter().chain([(0, all_right)]) {
-        let (width, height, connectivity, limit, places, work_places) = numbers;
+        let ([width, height, greatest, connectivity], limit, places, work_places) = numbers;
         let image = Image {
             greys: &greys,
             width,
             height,
+            greatest,
             connectivity,
         };
         let (mut out, mut work) = (vec![77; places], vec![77; work_places]);
@@ -120,14 +115,16 @@ fn connectivities() {
             greys: &[10; 12],
             width: 4,
             height: 3,
+            greatest: 255,
             connectivity,
         };
-        let (mut out, mut list, mut work) = ([0; 64], [Node::default(); 12], [0; 96]);
+        let (mut out, mut bytes) = ([0; 12], [0; 64]);
+        let (mut list, mut work) = ([Node::default(); 12], [0; 96]);
         let answers = [
             lent::clean(reference::LIGHT, image, 2, &mut out, &mut work),
             lent::regional_maxima(image, &mut out, &mut work),
             lent::node_entries(image, &mut list, &mut work).refusal,
-            lent::write_record(image, &mut out, &mut work).refusal,
+            lent::write_record(image, &mut bytes, &mut work).refusal,
         ];
         let refusal = u32::from(![4, 6, 8].contains(&connectivity));
         assert_eq!(answers, [refusal; 4], "{connectivity}");
@@ -137,7 +134,6 @@ fn connectivities() {
 /// The light side of a plate and the dark side of its negative are negatives.
 #[test]
 fn negatives() {
-    let negative = |greys: &[u8]| -> Vec<u8> { greys.iter().map(|grey| 255 - grey).collect() };
     let mut chance = Chance::new(6);
     for (case, extent) in extents().enumerate() {
         let plate = chance.plate(extent);
@@ -146,11 +142,15 @@ fn negatives() {
             let (mut out, mut work) = (vec![0; plate.pixels()], vec![0; 8 * plate.pixels()]);
             let refusal = lent::clean(side, plate.image(), limit, &mut out, &mut work);
             assert_eq!(refusal, 0);
-            out
+            plate.with(out)
         };
         let light = cleaned(reference::LIGHT, &plate);
-        let dark = cleaned(reference::DARK, &plate.with(negative(&plate.greys)));
-        assert_eq!(negative(&dark), light, "case {case}: {plate:?}, {limit}");
+        let dark = cleaned(reference::DARK, &plate.negative());
+        assert_eq!(
+            dark.negative().greys,
+            light.greys,
+            "case {case}: {plate:?}, {limit}"
+        );
     }
 }
 
@@ -159,10 +159,11 @@ fn marking_maxima() {
     compare(
         3,
         |image, _, out, work| lent::regional_maxima(image, out, work),
-        |greys, width, height, connectivity, _, out, work| {
-            reference::regional_maxima(greys, width, height, connectivity, out, work)
+        |plate, _, out, work| {
+            let (w, h, m, c) = plate.numbers();
+            reference::regional_maxima(&plate.greys, w, h, m, c, out, work)
         },
-        &[0, 1, 2, 3, 5, 6],
+        &[0, 1, 2, 3, 5, 6, 28, 29],
     );
 }
 
@@ -190,7 +191,7 @@ fn listing_nodes() {
         assert_eq!(work, work2, "case {case}: {plate:?}");
         seen.note(answer.refusal);
     }
-    seen.assert_all(&[0, 1, 2, 3, 5, 6]);
+    seen.assert_all(&[0, 1, 2, 3, 5, 6, 28, 29]);
 }
 
 #[test]
@@ -203,9 +204,9 @@ fn listing_entries() {
         let mut work = chance.buffer(8 * plate.pixels());
         let mut entries = vec![reference::NodeEntry::default(); places];
         let mut work2 = work.clone();
-        let (w, h, c) = plate.numbers();
+        let (w, h, m, c) = plate.numbers();
         let answer = lent::node_entries(plate.image(), &mut list, &mut work);
-        let wanted = reference::node_entries(&plate.greys, w, h, c, &mut entries, &mut work2);
+        let wanted = reference::node_entries(&plate.greys, w, h, m, c, &mut entries, &mut work2);
         assert_eq!(answer.refusal, wanted.refusal, "case {case}: {plate:?}");
         assert_eq!(answer.count, wanted.count, "case {case}: {plate:?}");
         let entry = |e: &reference::NodeEntry| Node {
@@ -218,7 +219,7 @@ fn listing_entries() {
         assert_eq!((list, work), (entries, work2), "case {case}: {plate:?}");
         seen.note(answer.refusal);
     }
-    seen.assert_all(&[0, 1, 2, 3, 5, 6]);
+    seen.assert_all(&[0, 1, 2, 3, 5, 6, 28, 29]);
 }
 
 /// How many nodes a plate has; 1 where it is refused.
@@ -229,34 +230,37 @@ fn count_nodes(plate: &Plate) -> usize {
     answer.count.max(1) as usize
 }
 
-/// The second program's node list, whose levels are bytes.
+/// The second program's node list.
 fn reference_nodes(
     plate: &Plate,
     [levels, parents, areas, anchors]: &mut [Vec<u32>; 4],
     work: &mut [u32],
 ) -> reference::NodeCount {
-    let mut bytes: Vec<u8> = levels.iter().map(|&level| level as u8).collect();
     let columns = reference::NodeColumns {
-        levels: &mut bytes,
+        levels,
         parents,
         areas,
         anchors,
     };
-    let (width, height, connectivity) = plate.numbers();
-    let answer = reference::node_list(&plate.greys, width, height, connectivity, columns, work);
-    for (level, byte) in levels.iter_mut().zip(bytes) {
-        *level = u32::from(byte);
-    }
-    answer
+    let (w, h, m, c) = plate.numbers();
+    reference::node_list(&plate.greys, w, h, m, c, columns, work)
 }
 
+/// Every grey, under greatest greys that are right and wrong.
 #[test]
 fn ink() {
-    for grey in 0..=255 {
-        assert_eq!(
-            u32::from(lent::ink_percentage(grey)),
-            reference::ink_percentage(grey),
-            "grey {grey}"
-        );
+    let mut seen = Seen::default();
+    for greatest in [0, 1, 2, 200, 255, 256, 1_000, 65_535, 65_536, u32::MAX] {
+        for grey in 0..=u16::MAX {
+            let answer = lent::ink_percentage(grey, greatest);
+            let wanted = reference::ink_percentage(grey, greatest);
+            assert_eq!(
+                (answer.refusal, answer.percentage),
+                (wanted.refusal, wanted.percentage),
+                "grey {grey} of {greatest}"
+            );
+            seen.note(answer.refusal);
+        }
     }
+    seen.assert_all(&[0, 28, 29]);
 }

@@ -106,7 +106,7 @@ fn three_connectivities() {
         assert_eq!(by_kind("clean --side light --limit 2", "- -"), clean);
         assert_eq!(text(&by_kind("sizelist", "-")), sizes);
         let record = by_kind("record", "- -");
-        assert_eq!(record[2], connectivity);
+        assert_eq!(record[6], connectivity);
         assert_eq!(answer("plate - -", &record), plate);
         assert_eq!(answer("cut --limit 2 - -", &record), clean);
     }
@@ -131,40 +131,133 @@ fn records() {
     let written = run_on(&["record", "-", "-"], SMALL);
     assert_ok(&written);
     assert_eq!(written.stdout, SMALL_RECORD);
-    let plate = run_on(&["plate", "-", "-"], &SMALL_RECORD);
-    assert_ok(&plate);
-    assert_eq!(plate.stdout, SMALL);
-    let cut = run_on(&["cut", "--limit", "2", "-", "-"], &SMALL_RECORD);
-    assert_eq!(cut.stdout, run_on(&CLEAN, SMALL).stdout);
+    for record in [&SMALL_RECORD[..], &OLD_RECORD] {
+        let plate = run_on(&["plate", "-", "-"], record);
+        assert_ok(&plate);
+        assert_eq!(plate.stdout, SMALL);
+        let cut = run_on(&["cut", "--limit", "2", "-", "-"], record);
+        assert_eq!(cut.stdout, run_on(&CLEAN, SMALL).stdout);
+    }
+}
+
+/// Every record in each form that it has.
+#[test]
+fn conversions() {
+    for (form, input, wanted) in [
+        ("old", &SMALL_RECORD[..], &OLD_RECORD[..]),
+        ("old", &OLD_RECORD, &OLD_RECORD),
+        ("new", &OLD_RECORD, &SMALL_RECORD),
+        ("new", &SMALL_RECORD, &SMALL_RECORD),
+        ("new", &FINER_RECORD, &FINER_RECORD),
+    ] {
+        for option in [format!("--to {form}"), format!("--to={form}")] {
+            let output = run_line(&format!("convert {option} - -"), input);
+            assert_ok(&output);
+            assert_eq!(output.stdout, wanted);
+        }
+    }
+}
+
+/// The small plate with each grey as so many of a greatest grey.
+fn small_of(greatest: u16, times: u16) -> Vec<u8> {
+    let greys = SMALL[11..].iter().map(|&grey| times * u16::from(grey));
+    let bytes = greys.flat_map(u16::to_be_bytes).collect::<Vec<u8>>();
+    [format!("P5\n4 3\n{greatest}\n").as_bytes(), &bytes].concat()
+}
+
+/// Two bytes a pixel.
+#[test]
+fn sixteen_bits() {
+    let plate = small_of(65_535, 257);
+    let light = run_on(&CLEAN, &plate);
+    assert_ok(&light);
+    let mut wanted = small_of(65_535, 257);
+    let five = wanted.len() - 14;
+    wanted[five..five + 2].fill(30);
+    assert_eq!(light.stdout, wanted);
+    let dark = run_line("clean --side dark --limit 10 - -", &plate);
+    assert_eq!(dark.stdout, plate);
+    let maxima = run_on(&["maxima", "-", "-"], &plate);
+    let mut wanted = small_of(65_535, 0);
+    for pixel in [5, 11] {
+        let at = wanted.len() - 24 + 2 * pixel;
+        wanted[at..at + 2].fill(255);
+    }
+    assert_eq!(maxima.stdout, wanted);
+    let nodes = run_on(&["nodes", "-"], &plate);
+    let wanted = "0 2570 0 12 0\n1 7710 0 2 6\n2 12850 1 1 5\n3 23130 0 1 11\n";
+    assert_eq!(text(&nodes.stdout), wanted);
+    let sizes = run_on(&["sizelist", "-"], &plate);
+    let wanted = "size 4 3 4 4\n1 1 5140\n2 1 10280\nheld 20560\nrest 2570 96\n";
+    assert_eq!(text(&sizes.stdout), wanted);
+    let record = run_on(&["record", "-", "-"], &plate);
+    assert_eq!(record.stdout[..6], [0, 2, 255, 255, 3, 4]);
+    assert_eq!(run_on(&["plate", "-", "-"], &record.stdout).stdout, plate);
+    let cut = run_on(&["cut", "--limit", "2", "-", "-"], &record.stdout);
+    assert_eq!(cut.stdout, light.stdout);
+}
+
+/// One byte a pixel with another greatest grey than 255, which is kept.
+#[test]
+fn other_greatest_greys() {
+    let plate = [b"P5\n4 3\n90\n", &SMALL[11..]].concat();
+    let clean = run_line("clean --side light --limit 1 - -", &plate);
+    assert_ok(&clean);
+    assert_eq!(clean.stdout, plate);
+    let maxima = run_on(&["maxima", "-", "-"], &plate);
+    let marks = [0, 0, 0, 0, 0, 90, 0, 0, 0, 0, 0, 90];
+    assert_eq!(maxima.stdout, [b"P5\n4 3\n90\n", &marks[..]].concat());
+    let sizes = text(&run_on(&["sizelist", "-"], &plate).stdout);
+    assert!(sizes.ends_with("rest 10 89\n"), "{sizes}");
 }
 
 #[test]
-fn refusals() {
+fn refusals_of_plate_files() {
     for (file, number) in [
         (&b""[..], 10),
         (b"P6 1 1 255\n\x07", 10),
         (b"P5 1 x 255\n\x07", 11),
         (b"P5 32769 1 255\n", 2),
         (b"P5 32768 32768 255\n", 2),
-        (b"P5 1 1 65535\n\x07\x07", 12),
+        (b"P5 1 1 0\n\x07", 12),
+        (b"P5 1 1 65536\n\x07\x07", 12),
         (b"P5 2 1 255\n\x07", 14),
+        (b"P5 1 1 256\n\x00", 14),
         (b"P5 1 1 255\n\x07\x07", 15),
+        (b"P5 1 1 6\n\x07", 28),
+        (b"P5 1 1 256\n\x01\x01", 28),
     ] {
         assert_refused(&run_on(&CLEAN, file), number);
         assert_refused(&run_on(&["sizelist", "-"], file), number);
     }
+}
+
+#[test]
+fn refusals_of_records() {
     for (record, number) in [
         (&b""[..], 20),
         (&[132, 0][..], 21),
-        (&[0], 22),
+        (&[0], 20),
+        (&[0, 3], 22),
+        (&[0, 2, 0], 22),
         (&[1, 1, 5], 22),
         (&[1, 1, 4, 1, 7, 1, 0, 0], 23),
         (&[2, 1, 4, 1, 7, 1, 0, 0], 24),
         (&[128, 128, 1, 128, 8], 20), // 16384 x 1024 are promised
+        (&[0, 2, 6, 1, 1, 4, 1, 7, 1, 0], 22),
+        (&[0, 2, 7, 1, 1, 4, 1, 7, 1, 0, 0], 23),
+        (&[0, 2, 7, 2, 1, 4, 1, 7, 1, 0, 0], 24),
     ] {
-        assert_refused(&run_on(&["plate", "-", "-"], record), number);
-        assert_refused(&run_on(&["cut", "--limit", "1", "-", "-"], record), number);
+        for command in [
+            "plate - -",
+            "cut --limit 1 - -",
+            "convert --to old - -",
+            "convert --to new - -",
+        ] {
+            assert_refused(&run_line(command, record), number);
+        }
     }
+    assert_refused(&run_line("convert --to old - -", &FINER_RECORD), 30);
     assert_refused(
         &run_on(&["cut", "--limit", "13", "-", "-"], &SMALL_RECORD),
         4,
@@ -175,8 +268,12 @@ fn refusals() {
 fn an_endless_input_is_refused() {
     let input = Path::new("/dev/zero");
     if input.exists() {
-        for (command, number) in [("maxima", 10), ("plate", 22)] {
-            assert_refused(&run(&[command], &[input, Path::new("-")]), number);
+        for (words, number) in [
+            (&["maxima"][..], 10),
+            (&["plate"], 22),
+            (&["convert", "--to", "new"], 22),
+        ] {
+            assert_refused(&run(words, &[input, Path::new("-")]), number);
         }
     }
 }
@@ -353,7 +450,7 @@ fn long_inputs() {
 }
 
 /// A command, the header of a plate file, how many bytes follow it, and the refusal with the figures of the case.
-const PLATE_FIGURES: [(&str, &str, usize, &str); 10] = [
+const PLATE_FIGURES: [(&str, &str, usize, &str); 14] = [
     (
         "clean --side light --limit 500",
         "P5 20 20 255\n",
@@ -374,9 +471,33 @@ const PLATE_FIGURES: [(&str, &str, usize, &str); 10] = [
     ),
     (
         "maxima",
-        "P5 1 1 65535\n",
+        "P5 1 1 65536\n",
         2,
-        "12: the greatest grey is 65535; 255 is read",
+        "12: the greatest grey is 65536; 1 to 65535",
+    ),
+    (
+        "maxima",
+        "P5 2 3 256\n",
+        11,
+        "14: 11 bytes for 6 pixels (2 x 3) of 2 bytes each",
+    ),
+    (
+        "maxima",
+        "P5 2 3 1000\n",
+        13,
+        "15: 1 byte left over after the 6 pixels (2 x 3) of 2 bytes each",
+    ),
+    (
+        "maxima",
+        "P5 2 3 6\n",
+        6,
+        "28: pixel 0 (row 0, column 0) is 7, above the greatest grey 6",
+    ),
+    (
+        "maxima",
+        "P5 2 3 1798\n",
+        12,
+        "28: pixel 0 (row 0, column 0) is 1799, above the greatest grey 1798",
     ),
     (
         "maxima",
@@ -425,6 +546,13 @@ fn refusals_of_plate_files_with_figures() {
     let roll = "15: a roll of several plates: 23 bytes after the first (4 x 3) begin with P5; \
                 pamsplit parts them";
     assert_tells("maxima", &[SMALL, SMALL].concat(), roll);
+    let wide = b"P5 1 1 1000\n\x03\xe8";
+    let roll = "15: a roll of several plates: 14 bytes after the first (1 x 1) begin with P5; \
+                pamsplit parts them";
+    assert_tells("maxima", &[wide, &wide[..]].concat(), roll);
+    let above = "28: pixel 4 (row 1, column 1) is 259, above the greatest grey 258";
+    let greys = b"\x01\x02\x00\xff\x00\x00\x01\x01\x01\x03\x02\x00";
+    assert_tells("maxima", &[b"P5 3 2 258\n", &greys[..]].concat(), above);
 }
 
 /// A command on standard input is refused in these words.
@@ -441,7 +569,11 @@ fn refusals_of_records_with_figures() {
     let longer = [&SMALL_RECORD[..], &[0]].concat();
     for (record, wanted) in [
         (
-            &SMALL_RECORD[..26],
+            &SMALL_RECORD[..30],
+            "20: byte 30: the own node of pixel 11 is not ended; the record has 30 bytes",
+        ),
+        (
+            &OLD_RECORD[..26],
             "20: byte 26: the own node of pixel 11 is not ended; the record has 26 bytes",
         ),
         (
@@ -459,12 +591,33 @@ fn refusals_of_records_with_figures() {
             "24: the record is not the one that its plate has",
         ),
     ] {
-        assert_tells("plate", record, wanted);
+        for command in ["plate", "convert --to old", "convert --to new"] {
+            assert_tells(command, record, wanted);
+        }
+    }
+}
+
+#[test]
+fn refusals_of_the_new_form_with_figures() {
+    let no_old = "30: the record's greatest grey is 100; only with 255 is there an old form";
+    assert_tells("convert --to old", &FINER_RECORD, no_old);
+    for (record, wanted) in [
+        (
+            &[0, 7][..],
+            "22: byte 1: the second field is 7; 2 in the new form",
+        ),
+        (&[0, 2, 0], "22: byte 2: the greatest grey is 0; 1 to 65535"),
+        (
+            &[0, 2, 100, 1, 1, 4, 1, 101, 1, 0],
+            "22: byte 7: the root's level is 101; 0 to 100",
+        ),
+    ] {
+        assert_tells("convert --to new", record, wanted);
     }
 }
 
 /// Command lines, and what is wrong with them.
-const SLIPS: [(&str, &str); 36] = [
+const SLIPS: [(&str, &str); 47] = [
     ("wash", "there is no command wash"),
     ("clean", "clean lacks --side light or --side dark"),
     ("clean a b", "clean lacks --side light or --side dark"),
@@ -532,6 +685,29 @@ const SLIPS: [(&str, &str); 36] = [
         "plate --connectivity 4 a b",
         "plate takes no --connectivity",
     ),
+    ("convert a b", "convert lacks --to old or --to new"),
+    ("convert", "convert lacks --to old or --to new"),
+    (
+        "convert --to older a b",
+        "the form older is neither old nor new",
+    ),
+    ("convert --to= a b", "the form  is neither old nor new"),
+    ("convert --to", "--to lacks its value"),
+    ("convert --to old --to=new a b", "--to is given twice"),
+    (
+        "convert --to new a",
+        "convert takes IN and OUT, and 1 file is given",
+    ),
+    (
+        "convert --to new",
+        "convert takes IN and OUT, and 0 files are given",
+    ),
+    ("convert --to new --limit 2 a b", "convert takes no --limit"),
+    (
+        "convert --to new --connectivity 4 a b",
+        "convert takes no --connectivity",
+    ),
+    ("plate --to old a b", "plate takes no --to"),
     ("nodes --force a", "nodes takes no --force"),
     ("nodes a b", "nodes takes IN, and 2 files are given"),
     ("nodes a --connectivity", "--connectivity lacks its value"),

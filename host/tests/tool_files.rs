@@ -17,6 +17,7 @@ use tool_common::*;
 /// What `clean --side light --limit 2` makes of the small plate.
 const CLEANED: [u8; 12] = [10, 10, 10, 10, 10, 30, 30, 10, 10, 10, 10, 90];
 const CLEAN: [&str; 5] = ["clean", "--side", "light", "--limit", "2"];
+const CONVERT_TO_OLD: [&str; 3] = ["convert", "--to", "old"];
 /// Nobody's number as a user and as a group.
 const NOBODY: u32 = 65_534;
 
@@ -153,8 +154,31 @@ fn a_refusal_leaves_the_output() {
     }
     let damaged = folder.file("damaged.rec", &SMALL_RECORD[..26]);
     assert_refused(&run(&["plate"], &[&damaged, &output]), 20);
+    assert_refused(&run(&CONVERT_TO_OLD, &[&damaged, &output]), 20);
+    let finer = folder.file("finer.rec", &FINER_RECORD);
+    assert_refused(&run(&CONVERT_TO_OLD, &[&finer, &output]), 30);
+    assert_refused(&run(&CONVERT_TO_OLD, &[&finer, &finer]), 30);
+    assert_eq!(fs::read(&finer).expect("IN"), FINER_RECORD);
     assert_eq!(fs::read(&output).expect("OUT"), b"as it was");
-    assert_eq!(folder.names(), ["damaged.rec", "in.pgm", "out.pgm"]);
+    assert_eq!(
+        folder.names(),
+        ["damaged.rec", "finer.rec", "in.pgm", "out.pgm"]
+    );
+}
+
+/// A record is converted into a new file, and into itself.
+#[test]
+fn converted_files() {
+    let folder = Folder::new("converted");
+    let (input, output) = (folder.file("in.rec", &SMALL_RECORD), folder.path("out.rec"));
+    assert_ok(&run(&CONVERT_TO_OLD, &[&input, &output]));
+    assert_eq!(fs::read(&output).expect("OUT"), OLD_RECORD);
+    assert_eq!(fs::read(&input).expect("IN"), SMALL_RECORD);
+    for (form, wanted) in [("new", &SMALL_RECORD[..]), ("old", &OLD_RECORD)] {
+        assert_ok(&run(&["convert", "--to", form], &[&output, &output]));
+        assert_eq!(fs::read(&output).expect("OUT"), wanted);
+    }
+    assert_eq!(folder.names(), ["in.rec", "out.rec"]);
 }
 
 #[test]

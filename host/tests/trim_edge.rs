@@ -11,10 +11,13 @@ const WIDTH: usize = 9;
 const HEIGHT: usize = 7;
 const PIXELS: usize = WIDTH * HEIGHT;
 
-/// The grey around a patch, and the patch's own by side.
-const GROUND: u8 = 100;
+/// The greatest grey of the plates with a patch.
+const GREATEST: u32 = 255;
 
-fn grey_of(side: Side) -> u8 {
+/// The grey around a patch, and the patch's own by side.
+const GROUND: u16 = 100;
+
+fn grey_of(side: Side) -> u16 {
     match side {
         Side::Light => 180,
         Side::Dark => 20,
@@ -27,7 +30,7 @@ fn patch(side: Side, column: usize, row: usize) -> Plate {
     for i in 0..6 {
         greys[(row + i / 3) * WIDTH + column + i % 3] = grey_of(side);
     }
-    Plate::new(WIDTH as u32, HEIGHT as u32, greys)
+    Plate::new(WIDTH as u32, HEIGHT as u32, GREATEST, greys)
 }
 
 fn cleaned(plate: &Plate, side: Side, connectivity: Connectivity, limit: u32) -> Plate {
@@ -66,7 +69,8 @@ fn patches_on_the_edge_stay() {
 #[test]
 fn patches_beside_the_edge_go() {
     let inside = |at: usize, extent: usize, length: usize| at.clamp(1, extent - length - 1);
-    let flat = Plate::new(WIDTH as u32, HEIGHT as u32, vec![GROUND; PIXELS]);
+    let flat = vec![GROUND; PIXELS];
+    let flat = Plate::new(WIDTH as u32, HEIGHT as u32, GREATEST, flat);
     for side in Side::ALL {
         for connectivity in Connectivity::ALL {
             for (column, row) in ON_THE_EDGE {
@@ -109,8 +113,8 @@ fn narrow_plates() {
     let mut chance = Chance::new(18);
     for (width, height) in [(1, 1), (1, 40), (40, 1), (2, 40), (40, 2), (2, 2)] {
         let pixels = width * height;
-        let greys = (0..pixels).map(|_| chance.next() as u8).collect();
-        let plate = Plate::new(width, height, greys);
+        let greys = (0..pixels).map(|_| chance.next() as u16).collect();
+        let plate = Plate::new(width, height, 65_535, greys);
         for side in Side::ALL {
             for connectivity in Connectivity::ALL {
                 for limit in [1, pixels.div_ceil(2), pixels] {
@@ -133,12 +137,18 @@ fn area_opening(plate: &Plate, connectivity: Connectivity, limit: u32) -> Plate 
             }
         }
     }
-    Plate::new(plate.width(), plate.height(), greys)
+    with_greys(plate, greys)
+}
+
+/// A plate of the same numbers with other greys.
+fn with_greys(plate: &Plate, greys: Vec<u16>) -> Plate {
+    Plate::new(plate.width(), plate.height(), plate.greatest(), greys)
 }
 
 fn negative(plate: &Plate) -> Plate {
-    let greys = plate.greys().iter().map(|grey| 255 - grey).collect();
-    Plate::new(plate.width(), plate.height(), greys)
+    let greys = plate.greys().iter();
+    let greatest = plate.greatest() as u16;
+    with_greys(plate, greys.map(|grey| greatest - grey).collect())
 }
 
 /// A frame is taken off again, whatever the sizes.
@@ -146,24 +156,24 @@ fn negative(plate: &Plate) -> Plate {
 fn frames() {
     let mut chance = Chance::new(20);
     for (width, height) in [(1, 1), (1, 3), (4, 1), (5, 4)] {
-        let greys = (0..width * height).map(|_| chance.next() as u8);
-        let plate = Plate::new(width, height, greys.collect());
-        let framed = plate.framed(77);
+        let greys = (0..width * height).map(|_| chance.next() as u16);
+        let plate = Plate::new(width, height, 65_535, greys.collect());
+        let framed = plate.framed(777);
         assert_eq!((framed.width(), framed.height()), (width + 2, height + 2));
         assert_eq!(framed.unframed(), plate);
     }
     for plate in [
-        Plate::new(0, 0, vec![]),
-        Plate::new(0, 3, vec![7; 2]),
-        Plate::new(u32::MAX, 1, vec![]),
+        Plate::new(0, 0, 255, vec![]),
+        Plate::new(0, 3, 255, vec![7; 2]),
+        Plate::new(u32::MAX, 1, 255, vec![]),
     ] {
         assert_eq!(plate.unframed().greys(), []);
     }
-    let none = Plate::new(0, 0, vec![]).framed(77);
-    assert_eq!(none, Plate::new(2, 2, vec![77; 4]));
+    let none = Plate::new(0, 0, 1_000, vec![]).framed(777);
+    assert_eq!(none, Plate::new(2, 2, 1_000, vec![777; 4]));
 }
 
-/// Cleaning inside a frame, black for the light side and white for the dark side, is the area opening or closing.
+/// Cleaning inside a frame, of 0 for the light side and of the greatest grey for the dark side, is the area opening or closing.
 #[test]
 fn plates_in_a_frame() {
     let mut chance = Chance::new(19);
@@ -171,11 +181,16 @@ fn plates_in_a_frame() {
         let job = chance.plate(7);
         let limit = 1 + chance.below(job.pixels()) as u32;
         let connectivity = job.connectivity.try_into().expect("a connectivity");
-        let plate = Plate::new(job.width, job.height, job.greys);
+        let plate = job.owned();
         let light = cleaned(&plate.framed(0), Side::Light, connectivity, limit);
         let opening = area_opening(&plate, connectivity, limit);
         assert_eq!(light.unframed(), opening, "case {case}: {plate:?}, {limit}");
-        let dark = cleaned(&plate.framed(255), Side::Dark, connectivity, limit);
+        let dark = cleaned(
+            &plate.framed(job.greatest as u16),
+            Side::Dark,
+            connectivity,
+            limit,
+        );
         let closing = negative(&area_opening(&negative(&plate), connectivity, limit));
         assert_eq!(dark.unframed(), closing, "case {case}: {plate:?}, {limit}");
     }

@@ -3,10 +3,17 @@
 mod common;
 
 use common::{Chance, Seen};
-use livukoe::{ink_percentage, lent, Connectivity, Joint, Plate, Record, Refusal, Side, WorkSpace};
+use livukoe::{
+    ink_percentage, lent, Connectivity, Joint, Plate, Record, RecordForm, Refusal, Side, WorkSpace,
+};
 
 fn small() -> Plate {
-    Plate::new(4, 3, vec![10, 10, 10, 10, 10, 50, 30, 10, 10, 10, 10, 90])
+    Plate::new(
+        4,
+        3,
+        255,
+        vec![10, 10, 10, 10, 10, 50, 30, 10, 10, 10, 10, 90],
+    )
 }
 
 #[test]
@@ -22,12 +29,19 @@ fn refusals_in_words() {
 #[test]
 fn plates_that_are_none() {
     for (plate, refusal) in [
-        (Plate::new(0, 0, vec![]), Refusal::Grid),
-        (Plate::new(32_769, 1, vec![0; 32_769]), Refusal::Grid),
-        (Plate::new(65_536, 65_536, vec![]), Refusal::Grid),
-        (Plate::new(2, 2, vec![0; 3]), Refusal::PlateLength),
-        (Plate::new(2, 2, vec![0; 5]), Refusal::PlateLength),
+        (Plate::new(0, 0, 255, vec![]), Refusal::Grid),
+        (Plate::new(32_769, 1, 0, vec![0; 32_769]), Refusal::Grid),
+        (Plate::new(65_536, 65_536, 255, vec![]), Refusal::Grid),
+        (Plate::new(2, 2, 0, vec![0; 3]), Refusal::Greatest),
+        (Plate::new(2, 2, 65_536, vec![0; 4]), Refusal::Greatest),
+        (Plate::new(2, 2, 255, vec![256; 3]), Refusal::PlateLength),
+        (Plate::new(2, 2, 255, vec![0; 5]), Refusal::PlateLength),
+        (Plate::new(2, 1, 7, vec![0, 8]), Refusal::Grey),
     ] {
+        let mut file = Vec::new();
+        let error = plate.write_pgm(&mut file).expect_err("no file");
+        assert_eq!(error.to_string(), refusal.to_string());
+        assert_eq!(file, []);
         for connectivity in Connectivity::ALL {
             for side in Side::ALL {
                 assert_eq!(plate.clean(side, connectivity, 1), Err(refusal));
@@ -43,13 +57,13 @@ fn plates_that_are_none() {
 fn both_sides() {
     let light = small().clean(Side::Light, Connectivity::Four, 2);
     let wanted = vec![10, 10, 10, 10, 10, 30, 30, 10, 10, 10, 10, 90];
-    assert_eq!(light, Ok(Plate::new(4, 3, wanted)));
+    assert_eq!(light, Ok(Plate::new(4, 3, 255, wanted)));
     let dark = small().clean(Side::Dark, Connectivity::Four, 10);
     assert_eq!(dark, Ok(small()), "every dark patch reaches the trim edge");
-    let hole = Plate::new(3, 3, vec![90, 80, 90, 90, 10, 90, 90, 90, 90]);
+    let hole = Plate::new(3, 3, 255, vec![90, 80, 90, 90, 10, 90, 90, 90, 90]);
     let dark = hole.clean(Side::Dark, Connectivity::Four, 2);
     let wanted = vec![90, 80, 90, 90, 80, 90, 90, 90, 90];
-    assert_eq!(dark, Ok(Plate::new(3, 3, wanted)));
+    assert_eq!(dark, Ok(Plate::new(3, 3, 255, wanted)));
 }
 
 #[test]
@@ -91,7 +105,9 @@ fn records_of_each_kind() {
             [4, 3, number, 4, 10, 12],
             [0, 0, 0, 0, 0, 2, 1, 0, 0, 0, 0, 3],
         );
-        assert_eq!(record.bytes(), [&head[..], &nodes, &own].concat());
+        let old = [&head[..], &nodes, &own].concat();
+        assert_eq!(record.bytes(), [&[0, 2, 255, 1], &old[..]].concat());
+        assert_forms(&record, Some(&Record::from_bytes(old)));
         assert_eq!(record.plate(), Ok(small()));
         for limit in 1..=12 {
             let clean = small().clean(Side::Light, connectivity, limit);
@@ -112,7 +128,7 @@ fn record_cut_and_sizes_at_once() {
         let Some(connectivity) = Connectivity::from_number(job.connectivity) else {
             continue;
         };
-        let plate = Plate::new(job.width, job.height, job.greys.clone());
+        let plate = job.owned();
         let apart = || {
             let record = plate.record(connectivity)?;
             let (cut, sizes) = (record.cut(limit)?, record.sizes()?);
@@ -124,8 +140,88 @@ fn record_cut_and_sizes_at_once() {
 
 #[test]
 fn ink() {
-    assert_eq!(ink_percentage(0), 100);
-    assert_eq!(ink_percentage(255), 0);
+    for (grey, greatest, ink) in [
+        (0, 255, 100),
+        (255, 255, 0),
+        (10, 255, 96),
+        (1, 200, 100), // 99.5
+        (1, 2, 50),
+        (32_767, 65_535, 50),
+        (65_535, 65_535, 0),
+    ] {
+        assert_eq!(ink_percentage(grey, greatest), Ok(ink));
+    }
+    for greatest in [0, 65_536, u32::MAX] {
+        assert_eq!(ink_percentage(1, greatest), Err(Refusal::Greatest));
+    }
+    assert_eq!(ink_percentage(1_001, 1_000), Err(Refusal::Grey));
+}
+
+/// The conversions of a new record, there and back, where it has an old form, and where it has none.
+fn assert_forms(new: &Record, old: Option<&Record>) {
+    assert_eq!(new.to_form(RecordForm::New), Ok(new.clone()));
+    let converted = new.to_form(RecordForm::Old);
+    assert_eq!(converted, old.cloned().ok_or(Refusal::NoOldForm));
+    if let Some(old) = old {
+        assert_eq!(old.to_form(RecordForm::Old), Ok(old.clone()));
+        assert_eq!(old.to_form(RecordForm::New), Ok(new.clone()));
+    }
+}
+
+/// A record of each greatest grey is converted there and back, and both forms have one plate, one cut and one size list.
+#[test]
+fn forms_of_records() {
+    let mut chance = Chance::new(25);
+    for _ in 0..5_000 {
+        let job = chance.plate(7);
+        let limit = chance.limit(job.pixels());
+        let connectivity = job.connectivity.try_into().expect("a connectivity");
+        let new = job.owned().record(connectivity).expect("a record");
+        let old = match job.greatest {
+            255 => Some(Record::from_bytes(new.bytes()[4..].to_vec())),
+            _ => None,
+        };
+        assert_forms(&new, old.as_ref());
+        assert_eq!(new.plate(), Ok(job.owned()));
+        assert_eq!(
+            new.head().map(|head| (head.form, head.greatest)),
+            Ok((RecordForm::New, job.greatest))
+        );
+        if let Some(old) = old {
+            assert_eq!(old.plate(), new.plate());
+            assert_eq!(old.cut(limit), new.cut(limit));
+            assert_eq!(old.sizes(), new.sizes());
+            assert_eq!(old.head().map(|head| head.form), Ok(RecordForm::Old));
+        }
+    }
+}
+
+#[test]
+fn forms_by_name() {
+    for (form, name) in [(RecordForm::Old, "old"), (RecordForm::New, "new")] {
+        assert_eq!((form.name(), form.to_string().as_str()), (name, name));
+        assert_eq!(RecordForm::from_name(name), Some(form));
+    }
+    for name in ["", "Old", "new ", "1"] {
+        assert_eq!(RecordForm::from_name(name), None);
+    }
+}
+
+/// What is written as a plate file is read as the plate, and has the form that the second program reads.
+#[test]
+fn plate_files() {
+    let mut chance = Chance::new(26);
+    for _ in 0..20_000 {
+        let job = chance.plate(9);
+        let mut file = Vec::new();
+        job.owned().write_pgm(&mut file).expect("a file");
+        assert_eq!(file, job.file());
+        assert_eq!(Plate::from_pgm(&file), Ok(job.owned()));
+    }
+    let many = Plate::new(300, 200, 1_000, (0..60_000).map(|p| p % 1_001).collect());
+    let mut file = Vec::new();
+    many.write_pgm(&mut file).expect("a file");
+    assert_eq!(Plate::from_pgm(&file), Ok(many));
 }
 
 /// The text of a size list is what the second program prints, refusals included.
@@ -208,7 +304,8 @@ fn answers(work: &mut WorkSpace, plate: &Plate, connectivity: Connectivity, limi
     let joint = work.record_cut_sizes(plate, connectivity, limit);
     let of_record = record.clone().map(|record| {
         let (plate, cut) = (work.plate(&record), work.cut(&record, limit));
-        (plate, cut, work.sizes(&record))
+        let forms = RecordForm::ALL.map(|form| work.to_form(&record, form));
+        (plate, cut, forms, work.sizes(&record))
     });
     let clean = Side::ALL.map(|side| work.clean(plate, side, connectivity, limit));
     format!(
@@ -231,7 +328,7 @@ fn a_shared_work_space() {
         let Ok(connectivity) = job.connectivity.try_into() else {
             continue;
         };
-        let plate = Plate::new(job.width, job.height, job.greys);
+        let plate = job.owned();
         let fresh = &mut WorkSpace::for_pixels(plate.greys().len());
         assert_eq!(
             answers(&mut shared, &plate, connectivity, limit),
@@ -245,7 +342,7 @@ fn a_shared_work_space() {
 /// A plate of more greys than any plate has is refused as a smaller one is.
 #[test]
 fn too_many_greys() {
-    let plate = Plate::new(1, 1, vec![0; livukoe::MAX_PIXELS + 1]);
+    let plate = Plate::new(1, 1, 255, vec![0; livukoe::MAX_PIXELS + 1]);
     let mut work = WorkSpace::new();
     let refusal = Err(Refusal::PlateLength);
     let clean = work.clean(&plate, Side::Light, Connectivity::Four, 1);
@@ -265,7 +362,12 @@ fn heads_of_records() {
         (&[][..], Refusal::FieldUnended),
         (&[4, 3, 4], Refusal::FieldUnended),
         (&[132, 0], Refusal::FieldForm),
-        (&[0], Refusal::FieldRange),
+        (&[0], Refusal::FieldUnended),
+        (&[0, 3], Refusal::FieldRange),
+        (&[128, 0], Refusal::FieldForm),
+        (&[0, 2, 0], Refusal::FieldRange),
+        (&[0, 2, 128, 128, 4], Refusal::FieldRange), // 65536
+        (&[0, 2, 255, 1, 0], Refusal::FieldRange),
         (&[128, 128, 2, 129, 4], Refusal::FieldRange), // 32768 x 513
         (&[4, 3, 5], Refusal::FieldRange),
         (&[4, 3, 7], Refusal::FieldRange),
@@ -285,6 +387,17 @@ fn faults_of_records() {
             "byte 0: the width is not ended; the record has 0 bytes",
         ),
         (&[4, 0], "byte 1: the height is 0; 1 to 32768"),
+        (&[0, 3], "byte 1: the second field is 3; 2 in the new form"),
+        (&[0, 2, 0], "byte 2: the greatest grey is 0; 1 to 65535"),
+        (&[0, 2, 255, 1, 0], "byte 4: the width is 0; 1 to 32768"),
+        (
+            &[0, 2, 100, 1, 1, 4, 1, 101],
+            "byte 7: the root's level is 101; 0 to 100",
+        ),
+        (
+            &[0, 2, 100, 2, 1, 4, 2, 95, 2, 1, 6],
+            "byte 10: the rise of node 1 is 6; 1 to 5",
+        ),
         (
             &[4, 132, 0],
             "byte 1: the height is not in its shortest form, or is above 4294967295",
@@ -335,10 +448,14 @@ fn faults_are_those_of_the_proved_reader() {
     seen.assert_all(&[0, 20, 21, 22, 23, 24]);
 }
 
-/// The record of a small plate by chance.
+/// The record of a small plate by chance, in either form.
 fn record_by_chance(chance: &mut Chance) -> Vec<u8> {
     let plate = chance.plate(6);
     let connectivity = plate.connectivity.try_into().expect("a connectivity");
-    let plate = Plate::new(plate.width, plate.height, plate.greys);
-    plate.record(connectivity).expect("a record").into_bytes()
+    let record = plate.owned().record(connectivity).expect("a record");
+    let old = record.to_form(RecordForm::Old);
+    match chance.one_in(2) {
+        true => old.unwrap_or(record).into_bytes(),
+        false => record.into_bytes(),
+    }
 }

@@ -2,8 +2,8 @@
 
 use std::hint::black_box;
 
-use livukoe::pictures::FINE_GREATEST;
-use livukoe::{work_space, Connectivity};
+use livukoe::lent::Image;
+use livukoe::{work_space, Connectivity, Plate};
 
 use crate::measure::{best_times, Timing};
 use crate::operations::Worker;
@@ -27,11 +27,9 @@ extern "C" {
     ) -> u32;
 }
 
-/// A square picture, and its tree.
+/// A picture, and its tree.
 struct Bench<'a> {
-    greys: &'a [u16],
-    width: u32,
-    connectivity: u32,
+    image: Image<'a>,
     tree: Tree,
 }
 
@@ -52,16 +50,16 @@ impl Bench<'_> {
     }
 
     fn run_proved(&mut self) -> usize {
-        let work = &mut self.tree.work;
+        let (image, work) = (self.image, &mut self.tree.work);
         // SAFETY: each pointer is to a slice of that length, and the two do not overlap
         let count = unsafe {
             livukoe_test_tree(
-                self.greys.as_ptr(),
-                self.greys.len(),
-                self.width,
-                self.width,
-                u32::from(FINE_GREATEST),
-                self.connectivity,
+                image.greys.as_ptr(),
+                image.greys.len(),
+                image.width,
+                image.height,
+                image.greatest,
+                image.connectivity,
                 work.as_mut_ptr(),
                 work.len(),
             )
@@ -71,37 +69,31 @@ impl Bench<'_> {
     }
 
     fn run_twin<const CHECKED: bool>(&mut self) -> usize {
-        let greatest = black_box(u32::from(FINE_GREATEST)); // so that the test of the greys is made
-        let fits = |&grey: &u16| u32::from(grey) <= greatest;
-        assert!(self.greys.iter().all(fits), "the plate is accepted");
-        let (width, work) = (self.width, &mut self.tree.work);
-        for (copy, &grey) in work.iter_mut().zip(self.greys) {
-            *copy = u32::from(grey);
-        }
-        twin::build::<CHECKED>(work, width, width, greatest, self.connectivity)
+        let image = black_box(self.image); // so that the test of the greys is made
+        twin::plate_tree::<CHECKED>(image, false, &mut self.tree.work)
     }
 }
 
-/// Measures the tree of a square picture.
-pub fn measure(
-    kind: &'static str,
-    greys: &[u16],
-    width: u32,
-    connectivity: Connectivity,
-) -> Timing {
-    let mut work = work_space(greys.len());
+/// Measures the tree of a picture.
+pub fn measure(kind: &'static str, plate: &Plate, connectivity: Connectivity) -> Timing {
+    let pixels = plate.greys().len();
+    let mut work = work_space(pixels);
     work.fill(1);
     let mut bench = Bench {
-        greys,
-        width,
-        connectivity: connectivity.number(),
+        image: Image {
+            greys: plate.greys(),
+            width: plate.width(),
+            height: plate.height(),
+            greatest: plate.greatest(),
+            connectivity: connectivity.number(),
+        },
         tree: Tree { count: 0, work },
     };
     Timing {
         operation: "tree",
         kind,
         connectivity,
-        pixels: greys.len(),
-        seconds: best_times(&mut bench, greys.len(), Bench::run, |bench| &bench.tree),
+        pixels,
+        seconds: best_times(&mut bench, pixels, Bench::run, |bench| &bench.tree),
     }
 }

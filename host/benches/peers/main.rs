@@ -1,10 +1,10 @@
 //! The benchmarks: each operation, proved and in plain Rust, on six pictures of growing sizes, and area opening and the
-//! tree by ITK and scikit-image where they are installed; then the engine on pictures of 16-bit greys. Writes
-//! docs/BENCHMARKS.md and docs/benchmarks.svg.
+//! tree by ITK and scikit-image where they are installed, on these and on pictures of 16-bit greys; then the engine on
+//! pictures of 16-bit greys. Writes docs/BENCHMARKS.md and docs/benchmarks.svg.
 //!
 //!     cargo bench --bench peers -- [--pixels N] [--peer-pixels N] [--part operations|engine] [--out DIRECTORY]
 //!
-//! The numbers are the greatest sizes, for all and for the peers. With one part only, the other stays as it was written.
+//! The numbers are the greatest sizes: for all, and for scikit-image, which takes longest. With one part only, the other stays as it was written.
 
 mod clock;
 mod engine;
@@ -25,7 +25,7 @@ use std::fs;
 use std::path::{Path, PathBuf};
 
 use livukoe::pictures::{self, fine_picture, picture};
-use livukoe::Connectivity;
+use livukoe::{Connectivity, Plate};
 
 use measure::Timing;
 use memory::Memory;
@@ -38,6 +38,30 @@ const FINE_WIDTHS: [u32; 4] = [128, 256, 1024, 4096];
 
 /// The parts of the report.
 const PARTS: [&str; 2] = ["operations", "engine"];
+
+/// The times of the operations and of the peers, on the pictures of bytes or on those of 16-bit greys.
+#[derive(Default)]
+struct Measured {
+    timings: Vec<Timing>,
+    peers: Vec<PeerTiming>,
+}
+
+impl Measured {
+    /// Measures operations on a picture, and the peers.
+    fn measure(
+        &mut self,
+        kind: &'static str,
+        plate: &Plate,
+        peers: &Peers,
+        connectivities: &[Connectivity],
+        operations: fn(&'static str, &Plate, Connectivity) -> Vec<Timing>,
+    ) {
+        for &connectivity in connectivities {
+            self.timings.extend(operations(kind, plate, connectivity));
+        }
+        self.peers.extend(peers.all(kind, plate));
+    }
+}
 
 struct Arguments {
     pixels: usize,
@@ -96,26 +120,32 @@ fn main() {
 }
 
 fn measure_operations(arguments: &Arguments) {
-    let peers = Peers::find();
-    let mut timings: Vec<Timing> = Vec::new();
-    let mut peer_timings: Vec<PeerTiming> = Vec::new();
+    let peers = Peers::find(arguments.peer_pixels);
+    let (mut coarse, mut fine) = (Measured::default(), Measured::default());
     let mut memory: Vec<Memory> = Vec::new();
     for width in arguments.widths(&WIDTHS) {
+        let pixels = (width * width) as usize;
         for kind in pictures::KINDS {
             let plate = picture(kind, width, width);
-            for connectivity in Connectivity::ALL {
-                timings.extend(measure::all(kind, &plate, connectivity));
-            }
-            if plate.greys().len() <= arguments.peer_pixels {
-                peer_timings.extend(peers.all(kind, &plate));
-            }
+            coarse.measure(kind, &plate, &peers, &Connectivity::ALL, measure::all);
             eprintln!("{kind}, {width} x {width}: done");
         }
-        memory.push(memory::measure((width * width) as usize));
+        for kind in pictures::FINE_KINDS {
+            let plate = fine_picture(kind, width, width);
+            fine.measure(
+                kind,
+                &plate,
+                &peers,
+                &[Connectivity::Four],
+                measure::peers_work,
+            );
+            eprintln!("{kind}, 16-bit greys, {width} x {width}: done");
+        }
+        memory.push(memory::measure(pixels));
         // each size, so that a run that is cut short leaves something
-        let text = report::operations(&timings, &peer_timings, &memory);
+        let text = report::operations(&coarse, &fine, &memory);
         write(&arguments.out, Some(&text), None);
-        let picture = plot::svg(&timings, &peer_timings);
+        let picture = plot::svg(&coarse.timings, &coarse.peers);
         fs::write(arguments.out.join("benchmarks.svg"), picture).expect("the plot is written");
     }
 }
@@ -124,11 +154,11 @@ fn measure_engine(arguments: &Arguments) {
     let mut timings: Vec<Timing> = Vec::new();
     for width in arguments.widths(&FINE_WIDTHS) {
         for kind in pictures::FINE_KINDS {
-            let greys = fine_picture(kind, width as usize, width as usize);
+            let plate = fine_picture(kind, width, width);
             for connectivity in engine::CONNECTIVITIES {
-                timings.push(engine::measure(kind, &greys, width, connectivity));
+                timings.push(engine::measure(kind, &plate, connectivity));
             }
-            eprintln!("{kind}, 16-bit greys, {width} x {width}: done");
+            eprintln!("{kind}, the engine, {width} x {width}: done");
         }
         write(&arguments.out, None, Some(&report::engine(&timings)));
     }

@@ -3,7 +3,7 @@
 use livukoe::{Connectivity, Plate};
 
 use crate::clock;
-use crate::operations::{Bench, Worker, CLEANINGS, OPERATIONS, WORKERS};
+use crate::operations::{Bench, Worker, AGAINST_PEERS, CLEANINGS, OPERATIONS, WORKERS};
 
 /// The best times of an operation on a picture, by worker.
 pub struct Timing {
@@ -30,12 +30,28 @@ fn runs(pixels: usize) -> usize {
 
 /// Measures all operations on a plate.
 pub fn all(kind: &'static str, plate: &Plate, connectivity: Connectivity) -> Vec<Timing> {
+    let mut operations = OPERATIONS.to_vec();
+    operations.retain(|operation| measured(operation, connectivity));
+    each(kind, plate, connectivity, &operations)
+}
+
+/// Measures on a plate what the peers do too.
+pub fn peers_work(kind: &'static str, plate: &Plate, connectivity: Connectivity) -> Vec<Timing> {
+    each(kind, plate, connectivity, &AGAINST_PEERS)
+}
+
+/// Measures some operations on a plate.
+fn each(
+    kind: &'static str,
+    plate: &Plate,
+    connectivity: Connectivity,
+    operations: &[&'static str],
+) -> Vec<Timing> {
     let mut bench = Bench::new(plate, connectivity);
     let pixels = plate.greys().len();
-    let operations = OPERATIONS.into_iter();
+    let operations = operations.iter();
     operations
-        .filter(|operation| measured(operation, connectivity))
-        .map(|operation| Timing {
+        .map(|&operation| Timing {
             operation,
             kind,
             connectivity,

@@ -15,6 +15,9 @@ const CLEAN_DARK: &str = "clean dark";
 /// Cleaning on either side.
 pub const CLEANINGS: [&str; 2] = [CLEAN_LIGHT, CLEAN_DARK];
 
+/// What the peers' functions are compared with.
+pub const AGAINST_PEERS: [&str; 2] = [CLEAN_LIGHT, "nodes"];
+
 /// The operations, in the order of the tables.
 pub const OPERATIONS: [&str; 10] = [
     CLEAN_LIGHT,
@@ -61,7 +64,7 @@ pub struct Bench<'a> {
 /// What an operation writes.
 #[derive(Clone, PartialEq)]
 pub struct Buffers {
-    pub greys: Vec<u8>,
+    pub greys: Vec<u16>,
     bytes: Vec<u8>,
     columns: [Vec<u32>; 4],
     list: Vec<Node>,
@@ -76,6 +79,8 @@ impl<'a> Bench<'a> {
         let record = plate.record(connectivity).expect("a record");
         let mut work = work_space(pixels);
         work.fill(1);
+        let mut file = Vec::new();
+        plate.write_pgm(&mut file).expect("a plate file");
         Bench {
             plate,
             connectivity,
@@ -89,7 +94,7 @@ impl<'a> Bench<'a> {
                 work,
             },
             record: record.bytes().to_vec(),
-            file: [plate.pgm_header().as_bytes(), plate.greys()].concat(),
+            file,
         }
     }
 
@@ -158,6 +163,7 @@ impl<'a> Bench<'a> {
                 greys: self.plate.greys(),
                 width: self.plate.width(),
                 height: self.plate.height(),
+                greatest: self.plate.greatest(),
                 connectivity: self.connectivity.number(),
             },
             record: &self.record,
@@ -182,7 +188,7 @@ struct Parts<'a> {
     image: Image<'a>,
     record: &'a [u8],
     file: &'a [u8],
-    greys: &'a mut [u8],
+    greys: &'a mut [u16],
     bytes: &'a mut [u8],
     columns: NodeColumns<'a>,
     list: &'a mut [Node],

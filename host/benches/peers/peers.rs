@@ -1,10 +1,10 @@
 //! Times of ITK and scikit-image, each in a process of its own, on one thread.
 
-use std::fs;
+use std::fs::{self, File};
 use std::path::{Path, PathBuf};
 use std::process::Command;
 
-use livukoe::{Connectivity, Plate, Side};
+use livukoe::{Connectivity, Plate, Side, BYTE_GREATEST};
 
 use crate::operations::LIMIT;
 
@@ -27,11 +27,13 @@ pub const SCIKIT_TREE: &str = "scikit-image max_tree";
 pub struct Peers {
     commands: Vec<(&'static str, Vec<PathBuf>)>,
     folder: PathBuf,
+    /// The greatest size for scikit-image.
+    scikit_pixels: usize,
 }
 
 impl Peers {
     /// Looks for the peers, and compiles what must be compiled.
-    pub fn find() -> Peers {
+    pub fn find(scikit_pixels: usize) -> Peers {
         let here = Path::new(env!("CARGO_MANIFEST_DIR")).join("peers");
         let folder = PathBuf::from(env!("CARGO_TARGET_TMPDIR"));
         let mut commands = Vec::new();
@@ -49,14 +51,18 @@ impl Peers {
                 commands.push((peer, words.to_vec()));
             }
         }
-        Peers { commands, folder }
+        Peers {
+            commands,
+            folder,
+            scikit_pixels,
+        }
     }
 
-    /// Measures every peer on a plate.
+    /// Measures every peer that takes a plate of that size.
     pub fn all(&self, kind: &'static str, plate: &Plate) -> Vec<PeerTiming> {
         let input = self.folder.join("plate.pgm");
-        let header = plate.pgm_header();
-        fs::write(&input, [header.as_bytes(), plate.greys()].concat()).expect("a plate file");
+        let written = File::create(&input).and_then(|file| plate.write_pgm(file));
+        written.expect("a plate file");
         let opening = area_opening(plate);
         let measure = |(peer, words): &(&'static str, Vec<PathBuf>)| {
             let output = self.folder.join("answer.raw");
@@ -64,8 +70,8 @@ impl Peers {
             let seconds = run(words, &input, &output, plate.greys().len());
             let answer = fs::read(&output).unwrap_or_default();
             let differing = |opening: &Plate| {
-                let pairs = answer.iter().zip(opening.greys());
-                pairs.filter(|(one, other)| one != other).count()
+                let pairs = greys(&answer, plate.greatest()).zip(opening.greys());
+                pairs.filter(|(one, other)| one != *other).count()
             };
             PeerTiming {
                 peer,
@@ -75,8 +81,20 @@ impl Peers {
                 differing: opening.as_ref().map(differing),
             }
         };
-        self.commands.iter().map(measure).collect()
+        let takes = |(peer, _): &&(&'static str, Vec<PathBuf>)| {
+            *peer == ITK_OPENING || plate.greys().len() <= self.scikit_pixels
+        };
+        self.commands.iter().filter(takes).map(measure).collect()
     }
+}
+
+/// The greys that a peer wrote as this machine has them: bytes up to the greatest grey 255, else 16-bit numbers.
+fn greys(raw: &[u8], greatest: u32) -> impl Iterator<Item = u16> + '_ {
+    let depth = if greatest <= BYTE_GREATEST { 1 } else { 2 };
+    raw.chunks_exact(depth).map(|bytes| match *bytes {
+        [low, high] => u16::from_ne_bytes([low, high]),
+        _ => bytes[0].into(),
+    })
 }
 
 /// The opening that the peers make, which has no trim edge: the plate is cleaned in a black frame. None where the framed

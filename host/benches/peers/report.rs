@@ -12,6 +12,7 @@ use crate::measure::Timing;
 use crate::memory::Memory;
 use crate::operations::{CLEAN_LIGHT, LIMIT, OPERATIONS};
 use crate::peers::{PeerTiming, ITK_OPENING, SCIKIT_OPENING, SCIKIT_TREE};
+use crate::Measured;
 
 /// What is ahead of the tables.
 const FRONT: &str = "# Benchmarks
@@ -59,12 +60,23 @@ pub fn engine(timings: &[Timing]) -> String {
     text
 }
 
-/// The part on the operations.
-pub fn operations(timings: &[Timing], peers: &[PeerTiming], memory: &[Memory]) -> String {
+/// The part on the operations, on pictures of bytes and on those of 16-bit greys.
+pub fn operations(coarse: &Measured, fine: &Measured, memory: &[Memory]) -> String {
     let mut text = FRONT.to_owned();
     let _ = write!(text, "\n## Machine\n\n{}", machine()); // a string takes every write
-    let _ = write!(text, "\n## Against peers\n\n{}", peer_table(timings, peers));
+    let _ = write!(
+        text,
+        "\n## Against peers\n\n{}",
+        against_peers(coarse, fine)
+    );
     let _ = write!(text, "\n## Memory alone\n\n{}", memory_table(memory));
+    text += &tables(&coarse.timings, &KINDS, "");
+    text + &tables(&fine.timings, &FINE_KINDS, ", 16-bit greys")
+}
+
+/// A table for each operation and connectivity that was measured; `of` says on which pictures.
+fn tables(timings: &[Timing], kinds: &[&str], of: &str) -> String {
+    let mut text = String::new();
     for connectivity in Connectivity::ALL {
         for operation in OPERATIONS {
             let of_operation = |timing: &&Timing| {
@@ -72,12 +84,9 @@ pub fn operations(timings: &[Timing], peers: &[PeerTiming], memory: &[Memory]) -
             };
             let rows: Vec<&Timing> = timings.iter().filter(of_operation).collect();
             if !rows.is_empty() {
-                let title = format!("{operation}, connectivity {connectivity}");
-                let _ = write!(
-                    text,
-                    "\n## {title}: nanoseconds a pixel\n\n{}",
-                    table(&rows, &KINDS)
-                );
+                let title = format!("{operation}, connectivity {connectivity}{of}");
+                let table = table(&rows, kinds);
+                text += &format!("\n## {title}: nanoseconds a pixel\n\n{table}");
             }
         }
     }
@@ -194,23 +203,84 @@ pub fn size_name(pixels: usize) -> String {
     }
 }
 
-/// How many times as long a peer takes, at the largest size that it was measured at.
-fn peer_table(timings: &[Timing], peers: &[PeerTiming]) -> String {
-    if peers.is_empty() {
+/// The largest size at which all peers were measured: that of the one that stops first.
+fn largest(peers: &[PeerTiming]) -> usize {
+    let last = |peer: &str| {
+        let rows = peers.iter().filter(|timing| timing.peer == peer);
+        rows.map(|timing| timing.pixels).max()
+    };
+    let all = [ITK_OPENING, SCIKIT_OPENING, SCIKIT_TREE];
+    all.into_iter().filter_map(last).min().unwrap_or(0)
+}
+
+/// The tables of the peers, and what they show.
+fn against_peers(coarse: &Measured, fine: &Measured) -> String {
+    if coarse.peers.is_empty() {
         return "No peer is installed: see `make peers`.\n".to_owned();
     }
-    let largest = peers.iter().map(|timing| timing.pixels).max().unwrap_or(0);
-    let mut text = format!(
+    format!(
         "How many times as long a peer takes, on {} pixels, connectivity 4, limit {LIMIT}: area opening against \
          `{CLEAN_LIGHT}`, the tree against `nodes`. `{CLEAN_LIGHT}` also keeps what reaches the trim edge, for which it \
          makes a pass more; the peers' area opening has no trim edge. In brackets: how many pixels of that opening are \
          wrong, compared with the proved function's answer on the picture in a black frame, inside which no patch \
          reaches the edge.\n\n\
-         | picture | `{CLEAN_LIGHT}`, s | `nodes`, s | {ITK_OPENING} | {SCIKIT_OPENING} | {SCIKIT_TREE} |\n\
-         |---|---|---|---|---|---|\n",
-        size_name(largest)
+         Pictures of bytes, which the peers take as bytes and the proved functions as 16-bit numbers:\n\n{}\n\
+         Pictures of 16-bit greys, which the peers take as 16-bit numbers too:\n\n{}\n\
+         ITK's area opening by size, on the pictures of 16-bit greys:\n\n{}",
+        size_name(largest(&coarse.peers)),
+        peer_table(coarse, &KINDS),
+        peer_table(fine, &FINE_KINDS),
+        itk_table(fine, &FINE_KINDS)
+    )
+}
+
+/// How many times as long ITK's area opening takes, at each size, and the geometric mean.
+fn itk_table(measured: &Measured, kinds: &[&str]) -> String {
+    let mut sizes: Vec<usize> = measured.peers.iter().map(|timing| timing.pixels).collect();
+    sizes.sort_unstable();
+    sizes.dedup();
+    let mut text = format!("| pixels | {} | geometric mean |\n|---|", kinds.join(" | "));
+    text += &"---|".repeat(kinds.len() + 1);
+    text += "\n";
+    for pixels in sizes {
+        let ratios: Vec<Option<f64>> = kinds
+            .iter()
+            .map(|kind| itk_ratio(measured, kind, pixels))
+            .collect();
+        let logs: Vec<f64> = ratios.iter().flatten().map(|ratio| ratio.ln()).collect();
+        let mean = (logs.iter().sum::<f64>() / logs.len() as f64).exp();
+        let cell = |ratio: &Option<f64>| ratio.map_or("crashes".to_owned(), |r| format!("{r:.1}"));
+        let cells: Vec<String> = ratios.iter().map(cell).collect();
+        text += &format!(
+            "| {} | {} | {mean:.1} |\n",
+            size_name(pixels),
+            cells.join(" | ")
+        );
+    }
+    text
+}
+
+/// ITK's time over that of the proved function; none where it crashed.
+fn itk_ratio(measured: &Measured, kind: &str, pixels: usize) -> Option<f64> {
+    let mut rows = measured.peers.iter();
+    let itk =
+        rows.find(|row| row.peer == ITK_OPENING && row.kind == kind && row.pixels == pixels)?;
+    let own = measured
+        .timings
+        .iter()
+        .find(|row| row.operation == CLEAN_LIGHT && row.kind == kind && row.pixels == pixels)?;
+    Some(itk.seconds? / own.seconds[0])
+}
+
+/// How many times as long each peer takes, at the largest size that it was measured at.
+fn peer_table(measured: &Measured, kinds: &[&str]) -> String {
+    let Measured { timings, peers } = measured;
+    let largest = largest(peers);
+    let mut text = format!(
+        "| picture | `{CLEAN_LIGHT}`, s | `nodes`, s | {ITK_OPENING} | {SCIKIT_OPENING} | {SCIKIT_TREE} |\n\
+         |---|---|---|---|---|---|\n"
     );
-    for kind in KINDS {
+    for &kind in kinds {
         let own = |operation: &str| {
             let mut rows = timings.iter().filter(|timing| {
                 timing.operation == operation && timing.kind == kind && timing.pixels == largest

@@ -8,9 +8,6 @@ use livukoe::Side;
 
 use crate::{twin_flood, twin_numbering, twin_ranks};
 
-/// The greatest grey of a byte.
-pub const GREATEST: u32 = 255;
-
 /// While a tree is built, the low half of a grey's entry is its level.
 pub const HALF: u32 = 65_536;
 
@@ -106,16 +103,20 @@ pub fn build<const CHECKED: bool>(
 
 /// The component tree of a plate, or of its negative; the number of nodes.
 pub fn plate_tree<const CHECKED: bool>(image: Image, negated: bool, work: &mut [u32]) -> usize {
-    for (copy, &grey) in work.iter_mut().zip(image.greys) {
-        *copy = u32::from(if negated { 255 - grey } else { grey });
+    let Image {
+        greys,
+        width,
+        height,
+        greatest,
+        connectivity,
+    } = image;
+    let fits = |&grey: &u16| u32::from(grey) <= greatest;
+    assert!(greys.iter().all(fits), "the plate is accepted");
+    for (copy, &grey) in work.iter_mut().zip(greys) {
+        let grey = u32::from(grey);
+        *copy = if negated { greatest - grey } else { grey };
     }
-    build::<CHECKED>(
-        work,
-        image.width,
-        image.height,
-        GREATEST,
-        image.connectivity,
-    )
+    build::<CHECKED>(work, width, height, greatest, connectivity)
 }
 
 /// Sets the work space to zero.
@@ -123,17 +124,17 @@ pub fn clear(work: &mut [u32], pixels: usize) {
     work[..8 * pixels].fill(0);
 }
 
-/// Writes the value of each pixel's own node, or its negative.
+/// Writes the value of each pixel's own node, or its negative where a greatest grey is given.
 pub fn write_values<const CHECKED: bool>(
     work: &mut [u32],
     pixels: usize,
-    negated: bool,
-    out: &mut [u8],
+    negated_by: Option<u32>,
+    out: &mut [u16],
 ) {
     let columns = Columns::<CHECKED>::of(work, pixels);
     for (out, &own) in out.iter_mut().zip(columns.own.0.iter()) {
-        let value = columns.flood_area[own as usize] as u8;
-        *out = if negated { 255 - value } else { value };
+        let value = columns.flood_area[own as usize];
+        *out = negated_by.map_or(value, |greatest| greatest - value) as u16;
     }
 }
 
@@ -181,18 +182,19 @@ pub fn clean<const CHECKED: bool>(
     side: Side,
     image: Image,
     limit: u32,
-    out: &mut [u8],
+    out: &mut [u16],
     work: &mut [u32],
 ) {
-    let (pixels, negated) = (image.greys.len(), side == Side::Dark);
-    let count = plate_tree::<CHECKED>(image, negated, work);
+    let pixels = image.greys.len();
+    let negated_by = (side == Side::Dark).then_some(image.greatest);
+    let count = plate_tree::<CHECKED>(image, negated_by.is_some(), work);
     put_attributes::<CHECKED>(work, image.width, image.height, count);
     cut_values::<CHECKED>(work, pixels, count, limit);
-    write_values::<CHECKED>(work, pixels, negated, out);
+    write_values::<CHECKED>(work, pixels, negated_by, out);
     clear(work, pixels);
 }
 
-pub fn regional_maxima<const CHECKED: bool>(image: Image, out: &mut [u8], work: &mut [u32]) {
+pub fn regional_maxima<const CHECKED: bool>(image: Image, out: &mut [u16], work: &mut [u32]) {
     let pixels = image.greys.len();
     let count = plate_tree::<CHECKED>(image, false, work);
     let mut columns = Columns::<CHECKED>::of(work, pixels);
@@ -200,7 +202,7 @@ pub fn regional_maxima<const CHECKED: bool>(image: Image, out: &mut [u8], work: 
     for v in 1..count {
         columns.flood_area[columns.parent[v] as usize] = 0;
     }
-    write_values::<CHECKED>(work, pixels, false, out);
+    write_values::<CHECKED>(work, pixels, None, out);
     clear(work, pixels);
 }
 

@@ -1,16 +1,15 @@
-//! The operations on records and plate files in plain Rust, with the same passes as the proved ones: a record is measured and then
-//! written; one that is read is parsed, its tree is built, and the record of that tree is compared with it. Only
-//! records of plates are read here: a damaged one panics.
+//! The operations on records and plate files in plain Rust, with the same passes as the proved ones: a record is
+//! measured and then written; one that is read is parsed, its tree is built, and the record of that tree is compared
+//! with it. Only records of plates in the new form are read here: another one panics.
 
 use livukoe::lent::Image;
 
-use crate::twin::{
-    build, clear, cut_values, plate_tree, put_attributes, write_values, Columns, GREATEST,
-};
+use crate::twin::{build, clear, cut_values, plate_tree, put_attributes, write_values, Columns};
 
 /// What the first fields say.
 #[derive(Clone, Copy)]
 struct Head {
+    greatest: u32,
     width: u32,
     height: u32,
     connectivity: u32,
@@ -32,12 +31,14 @@ fn all_fields<const CHECKED: bool>(
     let columns = Columns::<CHECKED>::of(work, head.pixels());
     let (level, parent, area) = (&columns.flood_parent, &columns.parent, &columns.area);
     let Head {
+        greatest,
         width,
         height,
         connectivity,
     } = head;
-    let first = [width, height, connectivity, count as u32, level[0], area[0]];
-    first.into_iter().all(&mut each)
+    let front = [0, 2, greatest, width, height, connectivity];
+    let root = [count as u32, level[0], area[0]];
+    front.into_iter().chain(root).all(&mut each)
         && (1..count).all(|i| {
             let rise = level[i] - level[parent[i] as usize];
             each(i as u32 - parent[i]) && each(rise) && each(area[i])
@@ -101,6 +102,7 @@ fn same_field(bytes: &[u8], mut at: usize, mut value: u32) -> Option<usize> {
 
 pub fn write_record<const CHECKED: bool>(image: Image, out: &mut [u8], work: &mut [u32]) {
     let head = Head {
+        greatest: image.greatest,
         width: image.width,
         height: image.height,
         connectivity: image.connectivity,
@@ -123,7 +125,10 @@ pub fn write_record<const CHECKED: bool>(image: Image, out: &mut [u8], work: &mu
 /// Parses a record; its greys stand in the work space.
 fn parse<const CHECKED: bool>(bytes: &[u8], work: &mut [u32]) -> Head {
     let at = &mut 0;
+    take_field(bytes, at, 0, 0);
+    take_field(bytes, at, 2, 2);
     let head = Head {
+        greatest: take_field(bytes, at, 1, 65_535),
         width: take_field(bytes, at, 1, 32_768),
         height: take_field(bytes, at, 1, 32_768),
         connectivity: take_field(bytes, at, 4, 8),
@@ -132,11 +137,11 @@ fn parse<const CHECKED: bool>(bytes: &[u8], work: &mut [u32]) -> Head {
     let count = take_field(bytes, at, 1, pixels as u32) as usize;
     let mut columns = Columns::<CHECKED>::of(work, pixels);
     let levels = &mut columns.flood_parent;
-    levels[0] = take_field(bytes, at, 0, GREATEST);
+    levels[0] = take_field(bytes, at, 0, head.greatest);
     take_field(bytes, at, 1, pixels as u32);
     for i in 1..count {
         let below = levels[i - take_field(bytes, at, 1, i as u32) as usize];
-        levels[i] = below + take_field(bytes, at, 1, GREATEST - below);
+        levels[i] = below + take_field(bytes, at, 1, head.greatest - below);
         take_field(bytes, at, 1, pixels as u32);
     }
     for grey in columns.grey.0.iter_mut() {
@@ -149,7 +154,8 @@ fn parse<const CHECKED: bool>(bytes: &[u8], work: &mut [u32]) -> Head {
 /// Reads a record; the tree of its plate stands in the work space, with so many nodes.
 fn read_tree<const CHECKED: bool>(bytes: &[u8], work: &mut [u32]) -> (Head, usize) {
     let head = parse::<CHECKED>(bytes, work);
-    let count = build::<CHECKED>(work, head.width, head.height, GREATEST, head.connectivity);
+    let Head { width, height, .. } = head;
+    let count = build::<CHECKED>(work, width, height, head.greatest, head.connectivity);
     let mut at = 0;
     let same = all_fields::<CHECKED>(work, head, count, |field| {
         let next = same_field(bytes, at, field);
@@ -160,19 +166,24 @@ fn read_tree<const CHECKED: bool>(bytes: &[u8], work: &mut [u32]) -> (Head, usiz
     (head, count)
 }
 
-pub fn read_record<const CHECKED: bool>(bytes: &[u8], out: &mut [u8], work: &mut [u32]) {
+pub fn read_record<const CHECKED: bool>(bytes: &[u8], out: &mut [u16], work: &mut [u32]) {
     let (head, _) = read_tree::<CHECKED>(bytes, work);
     for (out, &grey) in out.iter_mut().zip(&work[..head.pixels()]) {
-        *out = grey as u8;
+        *out = grey as u16;
     }
     clear(work, head.pixels());
 }
 
-pub fn cut_record<const CHECKED: bool>(bytes: &[u8], limit: u32, out: &mut [u8], work: &mut [u32]) {
+pub fn cut_record<const CHECKED: bool>(
+    bytes: &[u8],
+    limit: u32,
+    out: &mut [u16],
+    work: &mut [u32],
+) {
     let (head, count) = read_tree::<CHECKED>(bytes, work);
     put_attributes::<CHECKED>(work, head.width, head.height, count);
     cut_values::<CHECKED>(work, head.pixels(), count, limit);
-    write_values::<CHECKED>(work, head.pixels(), false, out);
+    write_values::<CHECKED>(work, head.pixels(), None, out);
     clear(work, head.pixels());
 }
 
@@ -208,7 +219,7 @@ pub fn size_list<const CHECKED: bool>(
 }
 
 /// Reads a plate file whose header has no comments.
-pub fn read_pgm(file: &[u8], out: &mut [u8]) {
+pub fn read_pgm(file: &[u8], out: &mut [u16]) {
     let mut words = file.splitn(5, |byte| byte.is_ascii_whitespace());
     let mut next = || words.next().expect("a word of the header");
     assert_eq!(next(), b"P5");
@@ -217,8 +228,18 @@ pub fn read_pgm(file: &[u8], out: &mut [u8]) {
         text.parse::<usize>().expect("a number")
     };
     let pixels = number(next()) * number(next());
-    assert_eq!(number(next()), 255);
+    let greatest = number(next());
+    let depth = if greatest > 255 { 2 } else { 1 };
     let raster = next();
-    assert_eq!(raster.len(), pixels);
-    out[..pixels].copy_from_slice(raster);
+    assert_eq!(raster.len(), depth * pixels);
+    let grey_of = |bytes: &[u8]| {
+        bytes
+            .iter()
+            .fold(0, |grey, &byte| 256 * grey + u16::from(byte))
+    };
+    let greys = || raster.chunks_exact(depth).map(grey_of);
+    assert!(greys().all(|grey| usize::from(grey) <= greatest));
+    for (out, grey) in out.iter_mut().zip(greys()) {
+        *out = grey;
+    }
 }

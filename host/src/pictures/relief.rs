@@ -20,8 +20,8 @@ pub fn specked_relief(width: u32, height: u32) -> Plate {
         let grey = if speck % 2 == 0 { 255.0 } else { 0.0 };
         put_speck(&mut greys, columns, centre, radius, grey);
     }
-    let greys = greys.iter().map(|grey| (grey + 0.5) as u8).collect();
-    Plate::new(width, height, greys)
+    let greys: Vec<u8> = greys.iter().map(|grey| (grey + 0.5) as u8).collect();
+    Plate::from_bytes(width, height, &greys)
 }
 
 /// A number from 0 up to, and not including, a bound.

@@ -16,13 +16,13 @@ enum { STACK = 65536, PAGE = 4096, BLIND = 256 };
 enum { MANY = 65536, RECORD = LIVUKOE_RECORD_BYTES(MANY), COMMENTS = 20000, FILE_BYTES = 3 * 3 * COMMENTS + 64 };
 
 /* KINDS is the number of connectivities, which are the first of the numbers that are passed as one. */
-enum { PLATES = 12, KINDS = 3, CONNECTIVITIES = 4, LIMITS = 6, FILES = 12 };
+enum { PLATES = 18, KINDS = 3, CONNECTIVITIES = 4, LIMITS = 6, FILES = 24 };
 static const uint32_t CONNECTIVITY[CONNECTIVITIES] = {4, 6, 8, 5};
 
 static struct plate {
-    uint32_t width, height;
+    uint32_t width, height, greatest;
     size_t pixels;
-    uint8_t greys[MANY];
+    uint16_t greys[MANY];
     /* by connectivity */
     uint8_t record[KINDS][RECORD];
     size_t length[KINDS];
@@ -33,7 +33,8 @@ static struct file {
     uint8_t bytes[FILE_BYTES];
 } files[FILES];
 
-static uint8_t out[MANY > FILE_BYTES ? MANY : FILE_BYTES], bytes[RECORD];
+static uint16_t out[MANY > FILE_BYTES ? MANY : FILE_BYTES];
+static uint8_t bytes[RECORD];
 static uint32_t work[LIVUKOE_WORK_NUMBERS(MANY)], columns[4][MANY];
 static uint64_t losses[MANY];
 static struct livukoe_node nodes[MANY];
@@ -46,33 +47,36 @@ static uint32_t chance(void)
     return chance_state >> 16;
 }
 
-/* The grey of a pixel in the plate of a kind. */
-static uint8_t grey_of(int kind, uint32_t x, uint32_t y, uint32_t width)
+/* The grey of a pixel in the plate of a kind, whose greatest grey is one below a power of two. */
+static uint16_t grey_of(int kind, uint32_t x, uint32_t y, const struct plate *plate)
 {
+    const uint32_t greatest = plate->greatest, end = plate->width - 1;
     switch (kind % 6) {
-    case 0: return (uint8_t)chance();
-    case 1: return (uint8_t)(x + y); /* ramps, again and again */
-    case 2: return 255 * ((x + y) % 2); /* a checkerboard */
-    case 3: return 255 * (y % 4 == 1 ? x == width - 1 : y % 4 == 3 ? x == 0 : 1); /* one corridor, to and fro */
-    case 4: return (uint8_t)(255 - (x * 7 + y * 13) % 256); /* every level, far apart */
-    default: return (uint8_t)((x ^ y) * 37); /* a deep tree */
+    case 0: return (uint16_t)(chance() & greatest);
+    case 1: return (uint16_t)((x + y) & greatest); /* ramps, again and again */
+    case 2: return (uint16_t)(greatest * ((x + y) % 2)); /* a checkerboard */
+    case 3: return (uint16_t)(greatest * (y % 4 == 1 ? x == end : y % 4 == 3 ? x == 0 : 1)); /* one corridor, to and fro */
+    case 4: return (uint16_t)(greatest - ((x * 7 + y * 13 * (greatest / 255)) & greatest)); /* every level, far apart */
+    default: return (uint16_t)(((x ^ y) * 37 * (greatest / 255)) & greatest); /* a deep tree */
     }
 }
 
+/* Plates of two sizes with the greatest grey 255, and of one with 65535. */
 static void make_plates(void)
 {
-    static const uint32_t sizes[2][2] = {{256, 256}, {32768, 2}};
+    static const uint32_t numbers[3][3] = {{256, 256, 255}, {32768, 2, 255}, {256, 256, 65535}};
     for (int kind = 0; kind < PLATES; kind++) {
         struct plate *plate = &plates[kind];
-        plate->width = sizes[kind / 6][0];
-        plate->height = sizes[kind / 6][1];
+        plate->width = numbers[kind / 6][0];
+        plate->height = numbers[kind / 6][1];
+        plate->greatest = numbers[kind / 6][2];
         plate->pixels = (size_t)plate->width * plate->height;
         for (uint32_t p = 0; p < plate->pixels; p++)
-            plate->greys[p] = grey_of(kind, p % plate->width, p / plate->width, plate->width);
+            plate->greys[p] = grey_of(kind, p % plate->width, p / plate->width, plate);
         for (int c = 0; c < KINDS; c++)
             plate->length[c] = livukoe_write_record(
-                plate->greys, plate->pixels, plate->width, plate->height, CONNECTIVITY[c], plate->record[c], RECORD,
-                work, LIVUKOE_WORK_NUMBERS(plate->pixels)).length;
+                plate->greys, plate->pixels, plate->width, plate->height, plate->greatest, CONNECTIVITY[c],
+                plate->record[c], RECORD, work, LIVUKOE_WORK_NUMBERS(plate->pixels)).length;
     }
 }
 
@@ -90,13 +94,13 @@ static void put_gap(struct file *file, int comments, const char *comment)
         put(file, comment);
 }
 
-/* Plate files whose three gaps have from 0 to 20000 comments, and some that are damaged. */
+/* Plate files whose three gaps have from 0 to 20000 comments, of one byte a pixel and of two, and some that are damaged. */
 static void make_files(void)
 {
     static const int comments[6] = {0, 1, 255, 1000, 1001, COMMENTS};
     for (int kind = 0; kind < FILES; kind++) {
         struct file *file = &files[kind];
-        const char *comment = kind < 6 ? "#\n" : "#x\r";
+        const char *comment = kind % 12 < 6 ? "#\n" : "#x\r";
         int many = comments[kind % 6];
         put(file, "P5");
         put_gap(file, many, comment);
@@ -104,7 +108,7 @@ static void make_files(void)
         put_gap(file, many, comment);
         put(file, "1");
         put_gap(file, many, comment);
-        put(file, kind == 11 ? "#" : "255\nab");
+        put(file, kind % 12 == 11 ? "#" : kind < 12 ? "255\nab" : "65535\nabcd");
     }
 }
 
@@ -124,7 +128,7 @@ static int done;
     for (const struct plate *plate = plates; plate < plates + PLATES; plate++) \
         for (int c = 0; c < KINDS; c++)
 #define EACH_LIMIT for (int l = 0; l < LIMITS; l++)
-#define IMAGE plate->greys, plate->pixels, plate->width, plate->height, CONNECTIVITY[c]
+#define IMAGE plate->greys, plate->pixels, plate->width, plate->height, plate->greatest, CONNECTIVITY[c]
 #define WORK work, LIVUKOE_WORK_NUMBERS(plate->pixels)
 #define LIMIT limit_of(l, plate->pixels)
 
@@ -157,7 +161,7 @@ static void read_pgm(void)
 {
     for (const struct file *file = files; file < files + FILES; file++)
         for (size_t cut = 0; cut < 8; cut++)
-            done += livukoe_read_pgm(file->bytes, file->length - cut, out, sizeof out).refusal == 0;
+            done += livukoe_read_pgm(file->bytes, file->length - cut, out, sizeof out / sizeof *out).refusal == 0;
 }
 
 static void write_record(void)
@@ -172,10 +176,14 @@ static size_t part(size_t length, size_t number)
     return number == 0 ? length : length * (20 - number) / 20 + number % 3;
 }
 
+/* A form begins at the first byte, or after the fields in front, which have 4 bytes where there is an old form. */
+#define EACH_FORM for (size_t front = 0; front <= 4; front += 4)
+#define FORM_OF_RECORD plate->record[c] + front, part(plate->length[c], p) - front
+
 static void read_record(void)
 {
-    EACH_RECORD for (size_t p = 0; p < 20; p++) done +=
-        livukoe_read_record(plate->record[c], part(plate->length[c], p), out, plate->pixels, WORK).refusal == 0;
+    EACH_RECORD EACH_FORM for (size_t p = 0; p < 20; p++) done +=
+        livukoe_read_record(FORM_OF_RECORD, out, plate->pixels, WORK).refusal == 0;
 }
 
 static void cut_record(void)
@@ -191,6 +199,19 @@ static void size_list(void)
         == 0;
 }
 
+/* Records of the new form, and those of the old form that they have in them. */
+static void record_to_old(void)
+{
+    EACH_RECORD EACH_FORM for (size_t p = 0; p < 20; p += 4) done +=
+        livukoe_record_to_old(FORM_OF_RECORD, bytes, RECORD, WORK).refusal == 0;
+}
+
+static void record_to_new(void)
+{
+    EACH_RECORD EACH_FORM for (size_t p = 0; p < 20; p += 4) done +=
+        livukoe_record_to_new(FORM_OF_RECORD, bytes, RECORD, WORK).refusal == 0;
+}
+
 static void write_cut_list(void)
 {
     EACH_PLATE EACH_LIMIT for (size_t places = 20; places <= RECORD; places += RECORD - 20) done +=
@@ -200,8 +221,9 @@ static void write_cut_list(void)
 
 static void ink_percentage(void)
 {
-    for (int grey = 0; grey < 256; grey++)
-        done += livukoe_ink_percentage((uint8_t)grey) <= 100;
+    for (uint32_t greatest = 0; greatest <= 65536; greatest += 255)
+        for (uint32_t grey = 0; grey <= 65535; grey += 51)
+            done += livukoe_ink_percentage((uint16_t)grey, greatest).refusal == 0;
 }
 
 static const struct function {
@@ -212,7 +234,8 @@ static const struct function {
     {"livukoe_node_list", node_list},           {"livukoe_node_entries", node_entries},
     {"livukoe_read_pgm", read_pgm},             {"livukoe_write_record", write_record},
     {"livukoe_read_record", read_record},       {"livukoe_cut_record", cut_record},
-    {"livukoe_size_list", size_list},           {"livukoe_write_cut_list", write_cut_list},
+    {"livukoe_size_list", size_list},           {"livukoe_record_to_old", record_to_old},
+    {"livukoe_record_to_new", record_to_new},   {"livukoe_write_cut_list", write_cut_list},
     {"livukoe_ink_percentage", ink_percentage},
 };
 

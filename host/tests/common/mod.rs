@@ -7,6 +7,9 @@ use std::collections::BTreeSet;
 use livukoe::lent::Image;
 use livukoe::Connectivity;
 
+/// The greatest greys of plates by chance; that of bytes comes more often.
+const GREATESTS: [u32; 9] = [1, 2, 200, 255, 255, 255, 256, 1_000, 65_535];
+
 /// Numbers that look like chance, the same in each run (xorshift).
 pub struct Chance(u64);
 
@@ -57,14 +60,18 @@ impl Chance {
     /// A small plate of few greys, so that patches nest and meet. Width and height are at most the extent.
     pub fn plate(&mut self, extent: usize) -> Plate {
         let (width, height) = (1 + self.below(extent), 1 + self.below(extent));
-        let greys = self.pick(&[1, 2, 3, 5, 256]);
-        let base = self.pick(&[0, 1, 7, 251]);
+        let greatest = self.pick(&GREATESTS);
+        let most = greatest as usize;
+        let greys = self.pick(&[1, 2, 3, 5, most + 1]);
+        let base = self.pick(&[0, 1, 7, most]);
+        let base = base.min((most + 1).saturating_sub(greys));
         let plate = (0..width * height)
-            .map(|_| (base + self.below(greys)).min(255) as u8)
+            .map(|_| (base + self.below(greys)).min(most) as u16)
             .collect();
         Plate {
             width: width as u32,
             height: height as u32,
+            greatest,
             connectivity: self.pick(&Connectivity::ALL).number(),
             greys: plate,
         }
@@ -83,8 +90,16 @@ impl Chance {
             plate.height = self.pick(&[0, plate.height + 1, 32_768, 32_769, 65_536, u32::MAX]);
         }
         if self.one_in(12) {
+            plate.greatest = self.pick(&[0, 65_536, 65_536 + 255, u32::MAX]);
+        }
+        if self.one_in(12) {
             let length = self.length_near(plate.greys.len());
-            plate.greys.resize(length, 9);
+            plate.greys.resize(length, 0);
+        }
+        if self.one_in(12) && plate.greatest < 65_535 && !plate.greys.is_empty() {
+            let at = self.below(plate.greys.len());
+            let above = plate.greatest as u16 + 1;
+            plate.greys[at] = self.pick(&[above, u16::MAX]);
         }
         plate
     }
@@ -103,7 +118,7 @@ impl Chance {
         for _ in 0..1 + self.below(2) {
             let at = self.below(bytes.len() + 1);
             let byte = self.pick(&[
-                0, 1, 2, 4, 6, 8, 127, 128, 129, 255, b'#', b' ', b'\n', b'5',
+                0, 1, 2, 3, 4, 6, 8, 127, 128, 129, 255, b'#', b' ', b'\n', b'5',
             ]);
             match self.below(5) {
                 0 => bytes.truncate(at),
@@ -138,8 +153,9 @@ impl Seen {
 pub struct Plate {
     pub width: u32,
     pub height: u32,
+    pub greatest: u32,
     pub connectivity: u32,
-    pub greys: Vec<u8>,
+    pub greys: Vec<u16>,
 }
 
 impl Plate {
@@ -148,13 +164,19 @@ impl Plate {
             greys: &self.greys,
             width: self.width,
             height: self.height,
+            greatest: self.greatest,
             connectivity: self.connectivity,
         }
     }
 
-    /// Width, height and connectivity.
-    pub fn numbers(&self) -> (u32, u32, u32) {
-        (self.width, self.height, self.connectivity)
+    /// Width, height, greatest grey and connectivity.
+    pub fn numbers(&self) -> (u32, u32, u32, u32) {
+        (self.width, self.height, self.greatest, self.connectivity)
+    }
+
+    /// The plate as the wrapper has it.
+    pub fn owned(&self) -> livukoe::Plate {
+        livukoe::Plate::new(self.width, self.height, self.greatest, self.greys.clone())
     }
 
     pub fn pixels(&self) -> usize {
@@ -162,14 +184,29 @@ impl Plate {
     }
 
     /// A plate of the same numbers with other greys.
-    pub fn with(&self, greys: Vec<u8>) -> Plate {
+    pub fn with(&self, greys: Vec<u16>) -> Plate {
         Plate { greys, ..*self }
+    }
+
+    /// The greatest grey minus each grey.
+    pub fn negative(&self) -> Plate {
+        let greys = self.greys.iter();
+        self.with(greys.map(|grey| self.greatest as u16 - grey).collect())
+    }
+
+    /// The pixels as a plate file has them.
+    pub fn raster(&self) -> Vec<u8> {
+        let bytes = self.greys.iter().flat_map(|grey| grey.to_be_bytes());
+        match self.greatest {
+            0..256 => bytes.skip(1).step_by(2).collect(),
+            _ => bytes.collect(),
+        }
     }
 
     /// The plate file of this plate.
     pub fn file(&self) -> Vec<u8> {
-        let mut file = format!("P5\n{} {}\n255\n", self.width, self.height).into_bytes();
-        file.extend(&self.greys);
-        file
+        let (width, height, greatest, _) = self.numbers();
+        let header = format!("P5\n{width} {height}\n{greatest}\n");
+        [header.as_bytes(), &self.raster()].concat()
     }
 }

@@ -9,9 +9,17 @@ use std::process::{Command, Output, Stdio};
 
 /// The small plate.
 pub const SMALL: &[u8] = b"P5\n4 3\n255\n\x0a\x0a\x0a\x0a\x0a\x32\x1e\x0a\x0a\x0a\x0a\x5a";
-pub const SMALL_RECORD: [u8; 27] = [
+/// Its record in the old form.
+pub const OLD_RECORD: [u8; 27] = [
     4, 3, 4, 4, 10, 12, 1, 20, 2, 1, 20, 1, 3, 80, 1, 0, 0, 0, 0, 0, 2, 1, 0, 0, 0, 0, 3,
 ];
+/// The same in the new form.
+pub const SMALL_RECORD: [u8; 31] = [
+    0, 2, 255, 1, 4, 3, 4, 4, 10, 12, 1, 20, 2, 1, 20, 1, 3, 80, 1, 0, 0, 0, 0, 0, 2, 1, 0, 0, 0,
+    0, 3,
+];
+/// The record of one pixel whose greatest grey is 100.
+pub const FINER_RECORD: [u8; 10] = [0, 2, 100, 1, 1, 4, 1, 7, 1, 0];
 
 /// A directory of a test's own, removed at its end.
 pub struct Folder(PathBuf);

@@ -6,10 +6,10 @@
 mod png;
 
 use std::error::Error;
-use std::fs;
+use std::fs::{self, File};
 use std::process::ExitCode;
 
-use livukoe::{pictures, Plate};
+use livukoe::{pictures, Plate, BYTE_GREATEST};
 
 fn main() -> ExitCode {
     let words: Vec<String> = std::env::args().skip(1).collect();
@@ -33,13 +33,17 @@ fn main() -> ExitCode {
 
 fn relief(output: &str) -> Result<(), Box<dyn Error>> {
     let plate = pictures::specked_relief(420, 300);
-    let header = plate.pgm_header();
-    fs::write(output, [header.as_bytes(), plate.greys()].concat())?;
+    plate.write_pgm(File::create(output)?)?;
     Ok(())
 }
 
 fn to_png(input: &str, output: &str) -> Result<(), Box<dyn Error>> {
     let plate = Plate::from_pgm(&fs::read(input)?)?;
+    if plate.greatest() != BYTE_GREATEST {
+        let greatest = plate.greatest();
+        let words = format!("{input}: the greatest grey is {greatest}; {BYTE_GREATEST} is shown");
+        return Err(words.into());
+    }
     fs::write(output, png::encoded(&plate))?;
     Ok(())
 }

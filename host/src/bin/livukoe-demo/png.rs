@@ -7,7 +7,7 @@ const SIGNATURE: [u8; 8] = [137, b'P', b'N', b'G', 13, 10, 26, 10];
 /// The most bytes of a stored block of deflate.
 const BLOCK: usize = 65_535;
 
-/// The bytes of a PNG file that shows the plate.
+/// The bytes of a PNG file that shows a plate with the greatest grey 255.
 pub fn encoded(plate: &Plate) -> Vec<u8> {
     let mut header = Vec::new();
     header.extend(plate.width().to_be_bytes());
@@ -16,7 +16,7 @@ pub fn encoded(plate: &Plate) -> Vec<u8> {
     let mut rows = Vec::new();
     for row in plate.greys().chunks(plate.width() as usize) {
         rows.push(0); // no filter
-        rows.extend(row);
+        rows.extend(row.iter().map(|&grey| grey as u8));
     }
     let mut file = SIGNATURE.to_vec();
     push_chunk(&mut file, b"IHDR", &header);

@@ -3,7 +3,7 @@
 use std::ffi::{OsStr, OsString};
 use std::str::FromStr;
 
-use livukoe::{Connectivity, Side};
+use livukoe::{Connectivity, RecordForm, Side};
 
 use crate::names::shown;
 
@@ -24,6 +24,7 @@ pub enum Verb {
     Record,
     Plate,
     Cut,
+    Convert,
     SizeList,
 }
 
@@ -35,6 +36,8 @@ pub struct Command {
     pub side: Option<Side>,
     /// 0 where the command takes none.
     pub limit: Limit,
+    /// None where the command takes none.
+    pub to: Option<RecordForm>,
     pub connectivity: Connectivity,
     /// Whether a write-protected output is replaced.
     pub force: bool,
@@ -56,18 +59,20 @@ struct Form {
     verb: Verb,
     side: bool,
     limit: bool,
+    to: bool,
     connectivity: bool,
     output: bool,
     line: &'static str,
     about: &'static str,
 }
 
-const FORMS: [Form; 7] = [
+const FORMS: [Form; 8] = [
     Form {
         name: "clean",
         verb: Verb::Clean,
         side: true,
         limit: true,
+        to: false,
         connectivity: true,
         output: true,
         line: "clean --side light|dark --limit N [--connectivity 4|6|8] IN.pgm OUT.pgm",
@@ -78,16 +83,18 @@ const FORMS: [Form; 7] = [
         verb: Verb::Maxima,
         side: false,
         limit: false,
+        to: false,
         connectivity: true,
         output: true,
         line: "maxima [--connectivity 4|6|8] IN.pgm OUT.pgm",
-        about: "255 inside regional maxima, 0 elsewhere",
+        about: "the greatest grey inside regional maxima, 0 elsewhere",
     },
     Form {
         name: "nodes",
         verb: Verb::Nodes,
         side: false,
         limit: false,
+        to: false,
         connectivity: true,
         output: false,
         line: "nodes  [--connectivity 4|6|8] IN.pgm",
@@ -98,16 +105,18 @@ const FORMS: [Form; 7] = [
         verb: Verb::Record,
         side: false,
         limit: false,
+        to: false,
         connectivity: true,
         output: true,
         line: "record [--connectivity 4|6|8] IN.pgm OUT.rec",
-        about: "write the record of a plate",
+        about: "write the record of a plate, in the new form",
     },
     Form {
         name: "plate",
         verb: Verb::Plate,
         side: false,
         limit: false,
+        to: false,
         connectivity: false,
         output: true,
         line: "plate  IN.rec OUT.pgm",
@@ -118,16 +127,29 @@ const FORMS: [Form; 7] = [
         verb: Verb::Cut,
         side: false,
         limit: true,
+        to: false,
         connectivity: false,
         output: true,
         line: "cut    --limit N IN.rec OUT.pgm",
         about: "the plate of a record, cleaned on the light side under its connectivity",
     },
     Form {
+        name: "convert",
+        verb: Verb::Convert,
+        side: false,
+        limit: false,
+        to: true,
+        connectivity: false,
+        output: true,
+        line: "convert --to old|new IN.rec OUT.rec",
+        about: "the record in the old or the new form; only with the greatest grey 255 is there an old one",
+    },
+    Form {
         name: "sizelist",
         verb: Verb::SizeList,
         side: false,
         limit: false,
+        to: false,
         connectivity: true,
         output: false,
         line: "sizelist [--connectivity 4|6|8] IN.pgm",
@@ -153,10 +175,12 @@ The connectivity says which pixels touch a pixel: 4 (left, right, above, below),
 right) or 8 (those four and all corners). It is 4 unless it is given.
 A patch that reaches the border of the sheet, its first or last row or column, stays whatever the limit, since the next
 sheet shows the remainder. For the area opening (closing) of the literature, which has no such rule, put a frame one
-pixel wide around the picture, black (0) for the light side, white (255) for the dark side, and cut it off afterwards:
-only the frame then lies on the border, and no patch inside reaches it.
+pixel wide around the picture, black (0) for the light side, white (the greatest grey) for the dark side, and cut it off
+afterwards: only the frame then lies on the border, and no patch inside reaches it.
 An OUT that is write-protected is left as it is, except with --force, which replaces it.
-IN.pgm is a binary PGM (P5) with the greatest grey 255, of up to 32768 x 32768 and 16777216 pixels.
+IN.pgm is a binary PGM (P5) of up to 32768 x 32768 and 16777216 pixels with a greatest grey of 1 to 65535: one byte a
+pixel up to 255, else two, the high one first. OUT.pgm has the same greatest grey.
+IN.rec is a record in the new form, which has the greatest grey, or in the old one, whose greatest grey is 255.
 
 Exit status: 0 done; 1 refused, with the number and the reason; 2 bad usage; 3 a file cannot be read or written,
 or there is not enough memory.
@@ -198,6 +222,7 @@ struct Given {
     force: bool,
     side: Option<Side>,
     limit: Option<Limit>,
+    to: Option<RecordForm>,
     connectivity: Option<Connectivity>,
     files: Vec<OsString>,
 }
@@ -242,22 +267,41 @@ impl Given {
             }
             return once(name, !std::mem::replace(flag, true));
         }
-        let mut value = || {
-            let word = value.clone().or_else(|| words.next());
+        let value = || {
+            let word = value.or_else(|| words.next());
             word.ok_or_else(|| format!("{name} lacks its value"))
         };
-        match name {
+        self.take_value(name, value)
+    }
+
+    /// Takes an option that has a value.
+    fn take_value(
+        &mut self,
+        name: &str,
+        value: impl FnOnce() -> Result<OsString, String>,
+    ) -> Result<(), String> {
+        let first = match name {
             "--side" => {
-                let side = chosen("side", &value()?, "neither light nor dark")?;
-                once(name, self.side.replace(side).is_none())
+                let side = chosen("side", &value()?, by_text, "neither light nor dark")?;
+                self.side.replace(side).is_none()
             }
-            "--limit" => once(name, self.limit.replace(limit(value()?)?).is_none()),
+            "--limit" => self.limit.replace(limit(value()?)?).is_none(),
+            "--to" => {
+                let form = chosen(
+                    "form",
+                    &value()?,
+                    RecordForm::from_name,
+                    "neither old nor new",
+                )?;
+                self.to.replace(form).is_none()
+            }
             "--connectivity" => {
-                let connectivity = chosen("connectivity", &value()?, "not 4, 6 or 8")?;
-                once(name, self.connectivity.replace(connectivity).is_none())
+                let connectivity = chosen("connectivity", &value()?, by_text, "not 4, 6 or 8")?;
+                self.connectivity.replace(connectivity).is_none()
             }
-            _ => Err(format!("there is no option {}", shown(OsStr::new(name)))),
-        }
+            _ => return Err(format!("there is no option {}", shown(OsStr::new(name)))),
+        };
+        once(name, first)
     }
 
     /// Whether the options are those of a form: what it needs is there, and nothing that it does not take.
@@ -269,6 +313,7 @@ impl Given {
                 form.side && self.side.is_none(),
             ),
             ("--limit", form.limit && self.limit.is_none()),
+            ("--to old or --to new", form.to && self.to.is_none()),
         ];
         if let Some((option, _)) = lacking.into_iter().find(|(_, lacking)| *lacking) {
             return Err(format!("{name} lacks {option}"));
@@ -276,6 +321,7 @@ impl Given {
         let unwanted = [
             ("--side", self.side.is_some() && !form.side),
             ("--limit", self.limit.is_some() && !form.limit),
+            ("--to", self.to.is_some() && !form.to),
             (
                 "--connectivity",
                 self.connectivity.is_some() && !form.connectivity,
@@ -307,6 +353,7 @@ impl Given {
             verb: form.verb,
             side: self.side,
             limit: self.limit.unwrap_or_default(),
+            to: self.to,
             connectivity: self.connectivity.unwrap_or_default(),
             force: self.force,
             input: files.next().unwrap_or_default(),
@@ -333,7 +380,16 @@ fn limit(word: OsString) -> Result<Limit, String> {
 }
 
 /// The value of an option, one of a few, or what is wrong with it.
-fn chosen<T: FromStr>(name: &str, word: &OsStr, wrong: &str) -> Result<T, String> {
-    let known = word.to_str().and_then(|text| text.parse().ok());
-    known.ok_or_else(|| format!("the {name} {} is {wrong}", shown(word)))
+fn chosen<T>(
+    name: &str,
+    word: &OsStr,
+    known: impl FnOnce(&str) -> Option<T>,
+    wrong: &str,
+) -> Result<T, String> {
+    let value = word.to_str().and_then(known);
+    value.ok_or_else(|| format!("the {name} {} is {wrong}", shown(word)))
+}
+
+fn by_text<T: FromStr>(text: &str) -> Option<T> {
+    text.parse().ok()
 }

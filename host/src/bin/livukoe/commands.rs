@@ -1,6 +1,6 @@
 //! Runs a command: the input is read whole, the work is done, and only then is anything written.
 
-use livukoe::{Plate, Record, Refusal};
+use livukoe::{Plate, Record, RecordForm, Refusal};
 
 use crate::arguments::{Command, Verb};
 use crate::failure::Failure;
@@ -15,10 +15,9 @@ pub fn run(command: &Command) -> Result<(), Failure> {
         Verb::Maxima => from_plate(command, "marking maxima", maxima),
         Verb::Nodes => nodes(command),
         Verb::Record => record(command),
-        Verb::Plate => from_record(command, "reading a record", |record, _| record.plate()),
-        Verb::Cut => from_record(command, "cutting a record", |record, command| {
-            record.cut(command.limit.number)
-        }),
+        Verb::Plate => plate(command),
+        Verb::Cut => cut(command),
+        Verb::Convert => convert(command),
         Verb::SizeList => size_list(command),
     }
 }
@@ -28,11 +27,13 @@ fn clean(plate: &Plate, command: &Command) -> Result<Plate, Refusal> {
     plate.clean(side, command.connectivity, command.limit.number)
 }
 
-/// Marks as a picture: 255 inside a maximum.
+/// Marks as a picture: the greatest grey inside a maximum.
 fn maxima(plate: &Plate, command: &Command) -> Result<Plate, Refusal> {
     let marks = plate.regional_maxima(command.connectivity)?;
-    let greys = marks.greys().iter().map(|mark| 255 * mark).collect();
-    Ok(Plate::new(plate.width(), plate.height(), greys))
+    let (width, height, greatest) = (plate.width(), plate.height(), plate.greatest());
+    let greys = marks.greys().iter();
+    let greys = greys.map(|mark| greatest as u16 * mark).collect();
+    Ok(Plate::new(width, height, greatest, greys))
 }
 
 /// From a plate file to a plate file.
@@ -45,24 +46,30 @@ fn from_plate(
     write_plate(command, &answer)
 }
 
-/// From a record to a plate file.
-fn from_record(
-    command: &Command,
-    doing: &str,
-    operation: fn(&Record, &Command) -> Result<Plate, Refusal>,
-) -> Result<(), Failure> {
-    let answer = input::from_record(command, |record| {
-        let _progress = Progress::of(doing.to_owned());
-        operation(record, command)
+fn plate(command: &Command) -> Result<(), Failure> {
+    let plate = on_record(command, "reading a record", Record::plate)?;
+    write_plate(command, &plate)
+}
+
+fn cut(command: &Command) -> Result<(), Failure> {
+    let limit = command.limit.number;
+    let cut = on_record(command, "cutting a record", |record| record.cut(limit))?;
+    write_plate(command, &cut)
+}
+
+fn convert(command: &Command) -> Result<(), Failure> {
+    let form = command.to.unwrap_or(RecordForm::New); // it is always given
+    let converted = on_record(command, "converting a record", |record| {
+        record.to_form(form)
     })?;
-    write_plate(command, &answer)
+    write_record(command, &converted)
 }
 
 fn record(command: &Command) -> Result<(), Failure> {
     let record = on_plate(command, "writing a record", |plate| {
         plate.record(command.connectivity)
     })?;
-    output::write(command, &|out| out.write_all(record.bytes()))
+    write_record(command, &record)
 }
 
 fn nodes(command: &Command) -> Result<(), Failure> {
@@ -107,9 +114,22 @@ fn on_plate<T>(
     })
 }
 
-fn write_plate(command: &Command, plate: &Plate) -> Result<(), Failure> {
-    output::write(command, &|out| {
-        out.write_all(plate.pgm_header().as_bytes())?;
-        out.write_all(plate.greys())
+/// Does the work on a record, and shows its progress.
+fn on_record<T>(
+    command: &Command,
+    doing: &str,
+    work: impl FnOnce(&Record) -> Result<T, Refusal>,
+) -> Result<T, Failure> {
+    input::from_record(command, |record| {
+        let _progress = Progress::of(doing.to_owned());
+        work(record)
     })
+}
+
+fn write_plate(command: &Command, plate: &Plate) -> Result<(), Failure> {
+    output::write(command, &|out| plate.write_pgm(out))
+}
+
+fn write_record(command: &Command, record: &Record) -> Result<(), Failure> {
+    output::write(command, &|out| out.write_all(record.bytes()))
 }

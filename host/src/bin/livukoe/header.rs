@@ -1,5 +1,7 @@
 //! The header of a plate file, looked at for messages. Whether a file is a plate file is decided by the proved reader.
 
+use livukoe::BYTE_GREATEST;
+
 /// The numbers of a header and where the pixels begin.
 #[derive(Debug, PartialEq)]
 pub struct Header {
@@ -12,6 +14,25 @@ pub struct Header {
 impl Header {
     pub fn pixels(&self) -> u64 {
         self.width * self.height
+    }
+
+    /// How many bytes a pixel has.
+    pub fn depth(&self) -> usize {
+        if self.greatest <= u64::from(BYTE_GREATEST) {
+            1
+        } else {
+            2
+        }
+    }
+
+    /// The greys of the pixels that are there in the file.
+    pub fn greys<'a>(&self, file: &'a [u8]) -> impl Iterator<Item = u64> + 'a {
+        let pixels = file[self.raster..].chunks_exact(self.depth());
+        pixels.map(|bytes| {
+            bytes
+                .iter()
+                .fold(0, |grey, &byte| 256 * grey + u64::from(byte))
+        })
     }
 }
 
@@ -105,18 +126,15 @@ mod tests {
 
     #[test]
     fn whole_headers() {
-        for (file, raster) in [
-            (&b"P5 4 3 255 "[..], 11),
-            (b"P5\n# a\r#b\n4\t\t003 255\n\x01", 21),
+        for (file, greatest, raster, greys) in [
+            (&b"P5 4 3 255 "[..], 255, 11, &[][..]),
+            (b"P5\n# a\r#b\n4\t\t003 255\n\x01\x02", 255, 21, &[1, 2]),
+            (b"P5 4 3 65535\n\x01\x02\x03", 65_535, 13, &[258]),
         ] {
-            let (width, height, greatest) = (4, 3, 255);
-            let wanted = Header {
-                width,
-                height,
-                greatest,
-                raster,
-            };
-            assert_eq!(scan(file), Ok(wanted));
+            let header = scan(file).expect("a header");
+            assert_eq!((header.width, header.height), (4, 3));
+            assert_eq!((header.greatest, header.raster), (greatest, raster));
+            assert_eq!(header.greys(file).collect::<Vec<u64>>(), greys);
         }
     }
 

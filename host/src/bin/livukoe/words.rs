@@ -1,6 +1,6 @@
 //! Refusals in words, with the figures of the case. A refusal without a row is told by what it means.
 
-use livukoe::{Record, Refusal, MAX_EXTENT, MAX_PIXELS};
+use livukoe::{Record, Refusal, BYTE_GREATEST, MAX_EXTENT, MAX_GREATEST, MAX_PIXELS};
 
 use crate::formats;
 use crate::header::{self, Header};
@@ -23,20 +23,22 @@ pub struct Facts<'a> {
 /// How a refusal is told.
 type Row = (Refusal, fn(&Facts) -> Option<String>);
 
-const ROWS: [Row; 11] = [
+const ROWS: [Row; 13] = [
     (Refusal::Grid, grid),
     (Refusal::Limit, limit),
     (Refusal::Letters, |facts| {
         Some(formats::no_plate_file(facts.bytes))
     }),
     (Refusal::Header, header),
-    (Refusal::GreatestGrey, greatest_grey),
+    (Refusal::FileGreatest, file_greatest),
     (Refusal::RasterShort, raster_short),
     (Refusal::RasterLong, raster_long),
     (Refusal::FieldUnended, fault),
     (Refusal::FieldForm, fault),
     (Refusal::FieldRange, fault),
     (Refusal::RecordLong, record_long),
+    (Refusal::Grey, grey),
+    (Refusal::NoOldForm, no_old_form),
 ];
 
 /// Why an operation refused, with the figures that are known.
@@ -79,34 +81,52 @@ fn header(facts: &Facts) -> Option<String> {
     })
 }
 
-fn greatest_grey(facts: &Facts) -> Option<String> {
-    let header = header::scan(facts.bytes).ok()?;
+fn file_greatest(facts: &Facts) -> Option<String> {
+    let Header { greatest, .. } = header::scan(facts.bytes).ok()?;
     Some(format!(
-        "the greatest grey is {}; 255 is read",
-        header.greatest
+        "the greatest grey is {greatest}; 1 to {MAX_GREATEST}"
     ))
 }
 
 fn raster_short(facts: &Facts) -> Option<String> {
     let header = header::scan(facts.bytes).ok()?;
     let there = counted(facts.bytes.len().checked_sub(header.raster)?, false);
-    let Header { width, height, .. } = header;
-    let pixels = header.pixels();
-    Some(format!("{there} for {pixels} pixels ({width} x {height})"))
+    Some(format!("{there} for {}", pixels(&header)))
 }
 
 fn raster_long(facts: &Facts) -> Option<String> {
     let header = header::scan(facts.bytes).ok()?;
-    let plate_end = header.raster + usize::try_from(header.pixels()).ok()?;
+    let plate_end = header.raster + header.depth() * usize::try_from(header.pixels()).ok()?;
     let left = facts.bytes.get(plate_end..)?;
     let count = counted(left.len(), facts.goes_on);
     let Header { width, height, .. } = header;
     Some(if left.starts_with(b"P5") {
         format!("a roll of several plates: {count} after the first ({width} x {height}) begin with P5; pamsplit parts them")
     } else {
-        let pixels = header.pixels();
-        format!("{count} left over after the {pixels} pixels ({width} x {height})")
+        format!("{count} left over after the {}", pixels(&header))
     })
+}
+
+/// How many pixels a header promises, and how they are stored where that is not a byte for each.
+fn pixels(header: &Header) -> String {
+    let (pixels, Header { width, height, .. }) = (header.pixels(), header);
+    match header.depth() {
+        1 => format!("{pixels} pixels ({width} x {height})"),
+        depth => format!("{pixels} pixels ({width} x {height}) of {depth} bytes each"),
+    }
+}
+
+fn grey(facts: &Facts) -> Option<String> {
+    let header = header::scan(facts.bytes).ok()?;
+    let Header {
+        width, greatest, ..
+    } = header;
+    let above = |(_, grey): &(u64, u64)| *grey > greatest;
+    let (pixel, grey) = (0..).zip(header.greys(facts.bytes)).find(above)?;
+    let (row, column) = (pixel / width, pixel % width);
+    Some(format!(
+        "pixel {pixel} (row {row}, column {column}) is {grey}, above the greatest grey {greatest}"
+    ))
 }
 
 fn fault(facts: &Facts) -> Option<String> {
@@ -121,6 +141,14 @@ fn record_long(facts: &Facts) -> Option<String> {
     let left = facts.record?.left_over();
     let count = counted(left, facts.goes_on);
     (left > 0).then(|| format!("{count} left over after the last field"))
+}
+
+fn no_old_form(facts: &Facts) -> Option<String> {
+    let head = facts.record?.head().ok()?;
+    Some(format!(
+        "the record's greatest grey is {}; only with {BYTE_GREATEST} is there an old form",
+        head.greatest
+    ))
 }
 
 fn counted(bytes: usize, or_more: bool) -> String {
