@@ -289,8 +289,8 @@ fn other_formats() {
         (b"P6 1 1 255\n\x07\x07\x07", "a raw PPM", "ppmtopgm"),
         (b"P7\nWIDTH 1\n", "a PAM", "pamtopnm | ppmtopgm"),
         (b"\x89PNG\r\n\x1a\n", "a PNG", "pngtopnm | ppmtopgm"),
-        (b"II*\0", "a TIFF", "tifftopnm | ppmtopgm"),
-        (b"MM\0*", "a TIFF", "tifftopnm | ppmtopgm"),
+        (b"II*\0", "a TIFF", "tifftopnm -byrow | ppmtopgm"),
+        (b"MM\0*", "a TIFF", "tifftopnm -byrow | ppmtopgm"),
         (b"\xff\xd8\xff\xe0", "a JPEG", "jpegtopnm | ppmtopgm"),
         (b"\x1f\x8b\x08", "compressed by gzip", "gunzip"),
         (
