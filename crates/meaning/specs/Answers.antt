@@ -44,11 +44,14 @@ anyAbove M f = some (length f) (λ (p : ℕ). ltb M (grey f p))
 abbrev pub greysRefusal : ℕ → List ℕ → ℕ → ℕ
 greysRefusal M f later = refuse (anyAbove M f) 28 later
 
--- 1 connectivity not 4, 6 or 8; 2 width or height or pixels beyond the grid; 29; 3 plate length not the pixels; 28
+-- 2 width or height or pixels beyond the grid; 29; 3 plate length not the pixels; 28
+abbrev pub imageRefusal : ℕ → ℕ → ℕ → List ℕ → ℕ → ℕ
+imageRefusal w h M f later =
+    refuse (not (gridFits w h)) 2 (greatestRefusal M (refuse (not (eqb (length f) (w * h))) 3 (greysRefusal M f later)))
+
+-- 1 connectivity not 4, 6 or 8; then the same
 abbrev pub plateRefusal : ℕ → ℕ → ℕ → ℕ → List ℕ → ℕ → ℕ
-plateRefusal k w h M f later =
-    refuse (not (connectivityFits k)) 1 (refuse (not (gridFits w h)) 2
-    (greatestRefusal M (refuse (not (eqb (length f) (w * h))) 3 (greysRefusal M f later))))
+plateRefusal k w h M f later = refuse (not (connectivityFits k)) 1 (imageRefusal w h M f later)
 
 -- 4 limit 0 or above the pixels
 abbrev pub limitRefusal : ℕ → ℕ → ℕ → ℕ

@@ -9,8 +9,8 @@ use native.Mathlib.Omega.{arith}
 use lib.Dec.{T, leb, ltb, eqb, leb→le, ltb→lt, lt→ltb, eqb→eq}
 use lib.ListN.{length}
 use borrow.Author.Tests.{eqb-true, eq-eqb, not-false, ltb-false, le-leb, le-ltb}
-use Rattle.meaning.specs.Answers.{anyAbove, cleanRefusal, filterRefusal, limitRefusal, maximaRefusal, outRefusal, plateRefusal, refuse, tablesRefusal}
-use Rattle.meaning.specs.Answers.{treeRefusal, workRefusal}
+use Rattle.meaning.specs.Answers.{anyAbove, cleanRefusal, filterRefusal, imageRefusal, limitRefusal, maximaRefusal, outRefusal, plateRefusal}
+use Rattle.meaning.specs.Answers.{refuse, tablesRefusal, treeRefusal, workRefusal}
 use Rattle.meaning.specs.Opening.{darkSide, lightSide, sideFits}
 use Rattle.meaning.specs.Plate.{Plate, connectivityFits, greatestFits, grey, gridFits, maxPixels}
 use Rattle.meaning.specs.Sets.{some}
@@ -85,40 +85,51 @@ module _ (M : ℕ) (f : List ℕ) where
 
 -- ---- the conditions that several operations share
 
-module _ (k w h M : ℕ) (f : List ℕ) where
-  pub plate-chain : Chain (plateRefusal k w h M f)
-  plate-chain =
-      chained (one (not (connectivityFits k)) 1 (omega arith))
-      (chained (one (not (gridFits w h)) 2 (omega arith))
+module _ (w h M : ℕ) (f : List ℕ) where
+  pub image-chain : Chain (imageRefusal w h M f)
+  image-chain =
+      chained (one (not (gridFits w h)) 2 (omega arith))
       (chained (one (not (greatestFits M)) 29 (omega arith))
-      (chained (one (not (eqb (length f) (w * h))) 3 (omega arith)) (one (anyAbove M f) 28 (omega arith)))))
+      (chained (one (not (eqb (length f) (w * h))) 3 (omega arith)) (one (anyAbove M f) 28 (omega arith))))
 
-  -- what none of 1, 2, 29, 3 and 28 refuses is an accepted plate
-  pub plate-none : (later : ℕ) → plateRefusal k w h M f later ≡ 0 → Plate k w h M f × (later ≡ 0)
-  plate-none later e =
-      let (kind, e₁) = refuse-none (not (connectivityFits k)) 1 _ (omega arith) e in
-      let (grid, e₂) = refuse-none (not (gridFits w h)) 2 _ (omega arith) e₁ in
-      let (range, e₃) = refuse-none (not (greatestFits M)) 29 _ (omega arith) e₂ in
-      let (long, e₄) = refuse-none (not (eqb (length f) (w * h))) 3 _ (omega arith) e₃ in
-      let (low, e₅) = refuse-none (anyAbove M f) 28 later (omega arith) e₄ in (
+  -- what none of 2, 29, 3 and 28 refuses is an accepted plate, with any connectivity
+  pub image-none : {k : ℕ} → connectivityFits k ≡ true → (later : ℕ) → imageRefusal w h M f later ≡ 0 → Plate k w h M f × (later ≡ 0)
+  image-none kind later e =
+      let (grid, e₁) = refuse-none (not (gridFits w h)) 2 _ (omega arith) e in
+      let (range, e₂) = refuse-none (not (greatestFits M)) 29 _ (omega arith) e₁ in
+      let (long, e₃) = refuse-none (not (eqb (length f) (w * h))) 3 _ (omega arith) e₂ in
+      let (low, e₄) = refuse-none (anyAbove M f) 28 later (omega arith) e₃ in (
         record {
-          kind = not-false (connectivityFits k) kind;
+          kind = kind;
           sizes = not-false (gridFits w h) grid;
           range = not-false (greatestFits M) range;
           long = eqb-true (length f) (w * h) (not-false (eqb (length f) (w * h)) long);
           greys = none-above M f low;
         },
-        e₅,
+        e₄,
       )
+
+module _ (k w h M : ℕ) (f : List ℕ) where
+  pub plate-chain : Chain (plateRefusal k w h M f)
+  plate-chain = chained (one (not (connectivityFits k)) 1 (omega arith)) (image-chain w h M f)
+
+  -- what none of 1, 2, 29, 3 and 28 refuses is an accepted plate
+  pub plate-none : (later : ℕ) → plateRefusal k w h M f later ≡ 0 → Plate k w h M f × (later ≡ 0)
+  plate-none later e =
+      let (kind, e₁) = refuse-none (not (connectivityFits k)) 1 _ (omega arith) e in
+      image-none w h M f (not-false (connectivityFits k) kind) later e₁
 
   -- r was found to be the refusal by the five
   pub plate-taken : {r : ℕ} → r ≡ plateRefusal k w h M f 0 → r ≡ 0 → Plate k w h M f
   plate-taken e z = plate-none 0 (sym e ∙ z) .0
 
--- none of the five is met by an accepted plate, and the later conditions decide
+-- none of the four, and none of the five, is met by an accepted plate, and the later conditions decide
+pub image-passes : {k w h M : ℕ} {f : List ℕ} → Plate k w h M f → (later : ℕ) → imageRefusal w h M f later ≡ later
+image-passes {k} {w} {h} {M} {f} t later =
+    rw (t .sizes, t .range, eq-eqb (length f) (w * h) (t .long), above-none M f (t .greys))
+
 pub plate-passes : {k w h M : ℕ} {f : List ℕ} → Plate k w h M f → (later : ℕ) → plateRefusal k w h M f later ≡ later
-plate-passes {k} {w} {h} {M} {f} t later =
-    rw (t .kind, t .sizes, t .range, eq-eqb (length f) (w * h) (t .long), above-none M f (t .greys))
+plate-passes t later = rw (t .kind) (image-passes t later)
 
 -- those on the pixels
 pub plate-later : {k w h M : ℕ} {f : List ℕ} → Plate k w h M f → (later : ℕ → ℕ) → plateRefusal k w h M f (later (w * h)) ≡ later (length f)

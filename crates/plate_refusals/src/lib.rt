@@ -5,7 +5,7 @@ ghost use Prim.Native.Nat.{_*_};
 ghost use lib.Dec.{leb};
 ghost use Rattle.meaning.specs.Plate.{gridFits, connectivityFits, greatestFits, maxExtent};
 ghost use Rattle.meaning.specs.Opening.{sideFits};
-ghost use Rattle.meaning.specs.Answers.{anyAbove, plateRefusal, limitRefusal, outRefusal, tablesRefusal, workRefusal};
+ghost use Rattle.meaning.specs.Answers.{anyAbove, imageRefusal, plateRefusal, limitRefusal, outRefusal, tablesRefusal, workRefusal};
 ghost use Rattle.meaning.specs.Answers.{filterRefusal, cleanRefusal, maximaRefusal};
 
 // The sides on which a plate is cleaned.
@@ -76,19 +76,10 @@ fn limit_fits(limit: u32, pixels: usize) -> bool
     1 <= limit && limit as usize <= pixels
 }
 
-// 1, 2, 29, 3 and 28 of a plate.
-pub fn plate_refusal(
-    connectivity: u32,
-    width: u32,
-    height: u32,
-    greatest: u32,
-    image: &[u16],
-) -> u32
-    ensures { λ r. ⌜ r ≡ plateRefusal connectivity width height greatest (now (image .entry)) 0 ⌝ }
+// 2, 29, 3 and 28 of a plate.
+pub fn image_refusal(width: u32, height: u32, greatest: u32, image: &[u16]) -> u32
+    ensures { λ r. ⌜ r ≡ imageRefusal width height greatest (now (image .entry)) 0 ⌝ }
 {
-    if !connectivity_fits(connectivity) {
-        return 1;
-    }
     if !grid_fits(width, height) {
         return 2;
     }
@@ -102,6 +93,22 @@ pub fn plate_refusal(
         return 28;
     }
     0
+}
+
+// 1, 2, 29, 3 and 28 of a plate with its connectivity.
+pub fn plate_refusal(
+    connectivity: u32,
+    width: u32,
+    height: u32,
+    greatest: u32,
+    image: &[u16],
+) -> u32
+    ensures { λ r. ⌜ r ≡ plateRefusal connectivity width height greatest (now (image .entry)) 0 ⌝ }
+{
+    if !connectivity_fits(connectivity) {
+        return 1;
+    }
+    image_refusal(width, height, greatest, image)
 }
 
 // 5 of an output with so many places.
