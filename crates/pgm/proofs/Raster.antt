@@ -1,11 +1,11 @@
 -- The greys of a raster: how many there are, and where the bytes of each stand.
-use mathlib.Core.Path.{_≡_, refl, sym, ap, _∙_}
+use mathlib.Core.Path.{_≡_, refl, sym, subst, ap, _∙_}
 use mathlib.Core.Bool.{Bool, true, false}
 use mathlib.Core.List.{List, [], _∷_}
 use mathlib.Core.Logic.{_⊎_, inl, inr}
 use Prim.Native.Nat.{ℕ, zero, suc, _+_, _*_, _/_, _≤_, _<_}
 use native.Mathlib.Omega.{arith}
-use lib.Dec.{leb}
+use lib.Dec.{T, leb, leb→le}
 use lib.ListN.{length}
 use Rattle.meaning.specs.Plate.{byteGreatest, grey}
 use Rattle.pgm.specs.File.{pairs, pixelBytes, greysOf}
@@ -31,12 +31,20 @@ pairs-at (high ∷ low ∷ s) (suc p) l =
 -- ---- one byte a pixel, or two
 
 -- a pixel has one byte or two
-one-or-two : (M : ℕ) → (pixelBytes M ≡ 1) ⊎ (pixelBytes M ≡ 2)
+pub one-or-two : (M : ℕ) → (pixelBytes M ≡ 1) ⊎ (pixelBytes M ≡ 2)
 one-or-two M = go (leb M byteGreatest) refl
   where
     go : (b : Bool) → leb M byteGreatest ≡ b → (pixelBytes M ≡ 1) ⊎ (pixelBytes M ≡ 2)
     go true e = inl (rw e)
     go false e = inr (rw e)
+
+-- where it has one the greatest grey is a byte
+pub one-low : (M : ℕ) → pixelBytes M ≡ 1 → M ≤ byteGreatest
+one-low M e = go (leb M byteGreatest) refl
+  where
+    go : (b : Bool) → leb M byteGreatest ≡ b → M ≤ byteGreatest
+    go true t = leb→le M byteGreatest (subst T (sym t) tt)
+    go false t = absurd (let two : 2 ≡ 1 = rw t at e in omega (arith, two))
 
 pub bytes-some : (M : ℕ) → 0 < pixelBytes M
 bytes-some M = elim (one-or-two M) [
@@ -51,11 +59,11 @@ bytes-most M n = elim (one-or-two M) [
 ]
 
 module _ (M : ℕ) (raster : List ℕ) where
-  one-byte : pixelBytes M ≡ 1 → greysOf M raster ≡ raster
+  pub one-byte : pixelBytes M ≡ 1 → greysOf M raster ≡ raster
   unfolding greysOf
   one-byte e = rw e
 
-  two-bytes : pixelBytes M ≡ 2 → greysOf M raster ≡ pairs raster
+  pub two-bytes : pixelBytes M ≡ 2 → greysOf M raster ≡ pairs raster
   unfolding greysOf
   two-bytes e = rw e
 

@@ -60,7 +60,7 @@ file-refused file out {a} {f} {n} e k i j =
     let p : faulty (faultNumber f) ≡ header file = rw k at e in
     (j ∙ ap refusedRead i ∙ rw (← p), rw (← p, fault-refuses f))
 
-refusal-is : (n w h M : ℕ) → sizesRead n w h M .refusal ≡ n
+pub refusal-is : (n w h M : ℕ) → sizesRead n w h M .refusal ≡ n
 refusal-is n w h M = by-test (eqb n 0) refl
   where
     by-test : (t : Bool) → eqb n 0 ≡ t → sizesRead n w h M .refusal ≡ n

@@ -18,7 +18,7 @@ pub struct PgmRead {
 }
 
 // How many bytes a pixel has.
-fn pixel_bytes(greatest: u32) -> usize
+pub fn pixel_bytes(greatest: u32) -> usize
     ensures { λ r. ⌜ r ≡ pixelBytes greatest ⌝ }
 {
     if greatest <= 255 {

@@ -15,7 +15,7 @@ use Rattle.pgm_header.specs.Steps.{Digits, Stepped}
 use Rattle.pgm_header.specs.declared.HeaderStep.the-variants.{Number}
 use Rattle.pgm_header.proofs.Front.{ends, passes, front-end}
 
-digit-range : (b : ℕ) → isDigit b ≡ true → (48 ≤ b) × (b ≤ 57)
+pub digit-range : (b : ℕ) → isDigit b ≡ true → (48 ≤ b) × (b ≤ 57)
 unfolding isDigit
 digit-range b e = let (l, h) = and-eq-true-iff (leb 48 b) (leb b 57) .0 e in (leb-true 48 b l, leb-true b 57 h)
 
@@ -75,11 +75,11 @@ number-none : (l : List ℕ) → front isDigit l ≡ 0 → number l ≡ malforme
 unfolding number
 number-none l e = rw e
 
-number-many : (l : List ℕ) → 5 < front isDigit l → number l ≡ malformed
+pub number-many : (l : List ℕ) → 5 < front isDigit l → number l ≡ malformed
 unfolding number
 number-many l h = rw (lt-leb (front isDigit l) 5 h, le-leb 1 (front isDigit l) (omega arith))
 
-number-few : (l : List ℕ) → 1 ≤ front isDigit l → front isDigit l ≤ 5
+pub number-few : (l : List ℕ) → 1 ≤ front isDigit l → front isDigit l ≤ 5
     → number l ≡ numberThen (digitsValue 0 (take (front isDigit l) l)) (drop (front isDigit l) l)
 unfolding number
 number-few l h k = rw (le-leb 1 (front isDigit l) h, le-leb (front isDigit l) 5 k)

@@ -10,11 +10,11 @@ use lib.Seq.{drop-cons, drop-drop, getD-drop}
 use Rattle.pgm_header.specs.Grammar.{front}
 
 module _ (test : ℕ → Bool) where
-  front-hit : (b : ℕ) (s : List ℕ) → test b ≡ true → front test (b ∷ s) ≡ suc (front test s)
+  pub front-hit : (b : ℕ) (s : List ℕ) → test b ≡ true → front test (b ∷ s) ≡ suc (front test s)
   unfolding front
   front-hit b s e = rw (e, front)
 
-  front-miss : (b : ℕ) (s : List ℕ) → test b ≡ false → front test (b ∷ s) ≡ 0
+  pub front-miss : (b : ℕ) (s : List ℕ) → test b ≡ false → front test (b ∷ s) ≡ 0
   unfolding front
   front-miss b s e = rw (e, front)
 

@@ -24,7 +24,7 @@ mix-opens : (b : ℕ) (s : List ℕ) → b ≡ 35 → mix (b ∷ s) ≡ comment 
 unfolding mix
 mix-opens b s e = rw e
 
-mix-other : (b : ℕ) (s : List ℕ) → blank b ≡ false → (b ≡ 35 → ⊥) → mix (b ∷ s) ≡ gapThen (b ∷ s)
+pub mix-other : (b : ℕ) (s : List ℕ) → blank b ≡ false → (b ≡ 35 → ⊥) → mix (b ∷ s) ≡ gapThen (b ∷ s)
 unfolding mix
 mix-other b s e ne = rw (e, ne-eqb b 35 ne, mix)
 

@@ -1,15 +1,13 @@
 -- What converting leaves: on a refusal, and with the record written. P: what reading finds up to 24.
-use mathlib.Core.Path.{_≡_, refl, ap, _∙_}
+use mathlib.Core.Path.{_≡_, refl, _∙_}
 use mathlib.Core.Bool.{Bool, true, false}
 use mathlib.Core.List.{List, _++_}
 use Prim.Native.Nat.{ℕ, _+_, _*_, _≤_, _<_}
-use native.Mathlib.Nat.{zero-add}
-use native.Mathlib.Omega.{arith}
 use borrow.Author.Tests.{le-ltb, lt-ltb}
 use lib.ListN.{length, drop, replicate}
-use lib.Seq.{sets, sets-eq}
-use Rattle.meaning.specs.Answers.{over}
+use lib.Seq.{sets}
 use Rattle.meaning.specs.Record.{recordIn}
+use Rattle.text_lines.proofs.Pieces.{sets-front}
 use Rattle.work_columns.specs.Columns.{Frame}
 use Rattle.work_columns.proofs.Columns.{cleared}
 use Rattle.record_parse.specs.Parse.{Parsed, plate}
@@ -26,9 +24,7 @@ pub passed-done : {bytes out out′ : List ℕ} {size : ℕ} → length bytes �
     → PassedOn bytes out out′ (record { refusal = 0; length = size })
 passed-done {bytes} {out} l e d =
     let z = le-ltb (length out) (length bytes) l in
-    let written : sets out 0 bytes ≡ over bytes out =
-    sets-eq bytes out 0 (omega arith) ∙ ap (λ (k : ℕ). bytes ++ drop k out) (zero-add (length bytes)) in
-    record { answer = rw (z, e); output = rw z (d ∙ written) }
+    record { answer = rw (z, e); output = rw z (d ∙ sets-front bytes out l) }
 
 -- ---- a record that is refused up to 24
 

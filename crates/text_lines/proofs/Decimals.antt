@@ -2,7 +2,7 @@
 use mathlib.Core.Path.{_≡_, sym, ap, _∙_}
 use mathlib.Core.Logic.{by-cases}
 use mathlib.Core.List.{List, [], _∷_, _++_}
-use Prim.Native.Nat.{ℕ, zero, suc, _+_, _/_, _%_, _^_, _≤_, _<_}
+use Prim.Native.Nat.{ℕ, zero, suc, _+_, _*_, _/_, _%_, _^_, _≤_, _<_}
 use native.Mathlib.Omega.{arith}
 use native.Mathlib.Decide.{decLt}
 use native.Mathlib.Nat.{pow-suc, div-lt-iff-lt-mul}
@@ -41,6 +41,13 @@ unfolding decimal
 decimal-more v l =
     digits-more v v l ∙ ap (λ (s : List ℕ). s ++ (digit (v % 10) ∷ [])) (digits-bound v (suc (v / 10)) (v / 10) (omega arith) (omega arith))
 
+-- one digit is put after those of a number
+pub decimal-next : (v d : ℕ) → 1 ≤ v → d < 10 → decimal (10 * v + d) ≡ decimal v ++ (digit d ∷ [])
+decimal-next v d some l =
+    let tenth : (10 * v + d) / 10 ≡ v = omega arith in
+    let last : (10 * v + d) % 10 ≡ d = omega arith in
+    decimal-more (10 * v + d) (omega arith) ∙ rw (tenth, last)
+
 pub decimal-length : (v : ℕ) → 10 ≤ v → length (decimal v) ≡ length (decimal (v / 10)) + 1
 decimal-length v l = ap length (decimal-more v l) ∙ length-append (decimal (v / 10)) (digit (v % 10) ∷ [])
 
@@ -56,7 +63,10 @@ digits-few (suc k) (suc m) v l =
     let tenth : v / 10 < 10 ^ suc k = div-lt-iff-lt-mul {k = 10} {x = v} {y = 10 ^ suc k} (omega arith) .1 (rw (pow-suc 10 (suc k)) at l) in
     rw (digits-more m v (omega arith), length-append (digits m (v / 10)) (digit (v % 10) ∷ [])) (omega (arith, digits-few k m (v / 10) tenth)))
 
+pub decimal-few : (k v : ℕ) → v < 10 ^ suc k → length (decimal v) ≤ suc k
+unfolding decimal
+decimal-few k v l = digits-few k (suc v) v l
+
 -- a number of 64 bits has at most twenty
 pub decimal-twenty : (v : ℕ) → v < 18446744073709551616 → length (decimal v) ≤ 20
-unfolding decimal
-decimal-twenty v l = digits-few 19 (suc v) v (omega arith)
+decimal-twenty v l = decimal-few 19 v (omega arith)

@@ -2,11 +2,11 @@
 use mathlib.Core.Path.{_≡_, refl, sym, ap, _∙_}
 use mathlib.Core.List.{List, [], _∷_, _++_, append-assoc, append-nil}
 use Prim.Native.Nat.{ℕ, suc, _+_, _≤_, _<_}
-use native.Mathlib.Nat.{add-zero, add-suc, suc-add}
+use native.Mathlib.Nat.{add-zero, add-suc, suc-add, zero-add}
 use native.Mathlib.Omega.{arith}
 use native.Mathlib.Numerals.{add-one}
-use lib.ListN.{getD, length, length-append, length-set, set, take}
-use lib.Seq.{length-sets, length-take-le, sets, take-all, take-suc}
+use lib.ListN.{drop, getD, length, length-append, length-set, set, take}
+use lib.Seq.{length-sets, length-take-le, sets, sets-eq, take-all, take-at, take-suc}
 use Rattle.text_lines.specs.Lines.{PutText, field, further, line}
 
 -- two runs of stores are one
@@ -14,6 +14,10 @@ pub sets-sets : (l : List ℕ) (i : ℕ) (a b : List ℕ) → sets (sets l i a) 
 sets-sets l i [] b = ap (λ (k : ℕ). sets l k b) (add-zero i)
 sets-sets l i (x ∷ a) b =
     ap (λ (k : ℕ). sets (sets (set l i x) (suc i) a) k b) (add-suc i (length a) ∙ sym (suc-add i (length a))) ∙ sets-sets (set l i x) (suc i) a b
+
+-- those from the first place on
+pub sets-front : (bytes l : List ℕ) → length bytes ≤ length l → sets l 0 bytes ≡ bytes ++ drop (length bytes) l
+sets-front bytes l h = sets-eq bytes l 0 (omega arith) ∙ ap (λ (k : ℕ). bytes ++ drop k l) (zero-add (length bytes))
 
 pub put-length : {text text′ bytes : List ℕ} {at next : ℕ} → PutText text at bytes text′ next → length text′ ≡ length text
 put-length {text} {bytes = bytes} {at = at} p = ap length (p .stored) ∙ length-sets text at bytes
@@ -26,6 +30,12 @@ put-put {text} {a = a} {b = b} {at = at} p q = record {
   room = omega (arith, q .room, put-length p);
   stored = q .stored ∙ rw (p .stored, p .after) (sets-sets text at a b);
 }
+
+-- what is put from the first place on stands up to the place after it
+pub put-front : {text bytes text′ : List ℕ} {next : ℕ} → PutText text 0 bytes text′ next → take next text′ ≡ bytes
+put-front {text} {bytes} p =
+    rw (p .stored, p .after, zero-add (length bytes), sets-front bytes text (omega (arith, p .after, p .room)))
+    (take-at bytes (drop (length bytes) text) (length bytes) refl)
 
 -- nothing is put
 pub put-nothing : (text : List ℕ) (at : ℕ) → at ≤ length text → PutText text at [] text at

@@ -1,18 +1,18 @@
 -- The text of a file: refused, or that of the plate that was read.
 use mathlib.Core.Path.{_≡_, sym, ap, _∙_}
-use mathlib.Core.List.{List, _++_}
+use mathlib.Core.List.{List}
 use Prim.Native.Nat.{ℕ, _*_, _≤_, _<_}
-use native.Mathlib.Nat.{zero-add}
 use native.Mathlib.Omega.{arith}
 use borrow.Author.Tests.{eq-eqb, le-ltb, lt-ltb, ne-eqb}
 use lib.ListN.{drop, length, length-append, take}
-use lib.Seq.{sets-eq, take-at}
+use lib.Seq.{take-at}
 use Rattle.meaning.specs.Answers.{outAfter, over}
 use Rattle.pgm.specs.File.{plateOf, readPgm}
 use Rattle.pgm.specs.declared.PgmRead.{PgmRead}
 use Rattle.pgm.proofs.Readable.{Readable}
 use Rattle.pgm.proofs.Reading.{file-readable}
 use Rattle.text_lines.specs.Lines.{PutText}
+use Rattle.text_lines.proofs.Pieces.{sets-front}
 use Rattle.text_sizelist.specs.Text.{answerText, mostPixels, inputBytes, plateText, refusedText, sizeText}
 use Rattle.text_sizelist.specs.Pieces.{Made}
 
@@ -20,9 +20,7 @@ use Rattle.text_sizelist.specs.Pieces.{Made}
 pub made : {text text′ bytes answer : List ℕ} {r : ℕ} → PutText text 0 bytes text′ r → bytes ≡ answer → Made answer text text′ r
 made {text} {bytes = bytes} p e = record {
   long = omega (arith, p .after, ap length e);
-  output =
-      p .stored ∙ sets-eq bytes text 0 (omega (arith, p .after, p .room)) ∙ ap (λ (k : ℕ). bytes ++ drop k text) (zero-add (length bytes))
-      ∙ ap (λ (b : List ℕ). over b text) e;
+  output = p .stored ∙ sets-front bytes text (omega (arith, p .after, p .room)) ∙ ap (λ (b : List ℕ). over b text) e;
 }
 
 -- ---- the three ways
