@@ -1,0 +1,2 @@
+-- Plate files, written and read: the written form, and the claim.
+pub mod PlateFiles

@@ -1,0 +1,1 @@
+// The theorem on plate files stands in specs/ and proofs/; this crate has no functions.
