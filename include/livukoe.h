@@ -33,6 +33,7 @@
  *     livukoe_node_list       13312
  *     livukoe_node_entries    13312
  *     livukoe_read_pgm         7168
+ *     livukoe_write_pgm        1024
  *     livukoe_write_record    13312
  *     livukoe_read_record     13312
  *     livukoe_cut_record      13312
@@ -63,6 +64,10 @@ extern "C" {
  * there are fewer of them than pixels, the step to its parent (4), its rise (3) and its area (4); each pixel its own
  * node (4). */
 #define LIVUKOE_RECORD_BYTES(pixels) (15 * (size_t)(pixels) + 12)
+
+/* How long an output must be for the plate file of so many pixels, whatever they are, in bytes: two a pixel, and a header
+ * of at most 21. */
+#define LIVUKOE_PGM_BYTES(pixels) (2 * (size_t)(pixels) + 21)
 
 /* The greatest grey of every record in the old form. */
 #define LIVUKOE_OLD_GREATEST 255
@@ -187,6 +192,18 @@ struct livukoe_plate_head {
  * to 255, else two, the high byte first. An output of as many numbers as the file has bytes is always long enough.
  * Refusals 10, 11, 2, 12, 14, 15, 28, 5. */
 struct livukoe_plate_head livukoe_read_pgm(const uint8_t *file, size_t file_length, uint16_t *out, size_t out_length);
+
+struct livukoe_file_length {
+    uint32_t refusal;
+    size_t length; /* of the file, in bytes */
+};
+
+/* Writes a plate file: "P5", LF, width, one space, height, LF, greatest grey, LF and the raster, without comments or
+ * leading zeros. Of all files that livukoe_read_pgm reads as this plate only this one has that form.
+ * LIVUKOE_PGM_BYTES(pixels) are always enough. Refusals 2, 29, 3, 28, 5. */
+struct livukoe_file_length livukoe_write_pgm(
+    const uint16_t *image, size_t image_length, uint32_t width, uint32_t height, uint32_t greatest,
+    uint8_t *out, size_t out_length);
 
 /* The record of a plate: its canonical description, by the tree of its nodes and each pixel's own node. It has two
  * forms. The new one, which is written, begins with the fields 0, 2 and the greatest grey; the old one lacks these, and

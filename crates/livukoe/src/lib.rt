@@ -12,9 +12,11 @@ ghost use Rattle.record_convert.specs.Converting.{Converted};
 ghost use Rattle.plate_entries.specs.Entries.{EntriesListed};
 ghost use Rattle.record_write_cut_list.specs.WriteCutList.{WrittenCutListed};
 ghost use Rattle.pgm.specs.File.{readPgm, plateOf};
+ghost use Rattle.pgm_write.specs.Writing.{pgmOf, writePgm};
 ghost use Rattle.ink.specs.Percentage.{Percentage};
 use ink::Ink;
 use pgm::PgmRead;
+use pgm_write::PgmWritten;
 use plate_entries::Node;
 use plate_tree::NodeList;
 use record::Head;
@@ -126,6 +128,22 @@ pub extern "C" fn livukoe_read_pgm(file: &[u8], out: &mut [u16]) -> PgmRead
         (plateOf (now (file .entry))) (now (out .entry)) ⌝ }
 {
     pgm::read_pgm(file, out)
+}
+
+// Writes the plate file of a plate into the output.
+#[no_mangle]
+pub extern "C" fn livukoe_write_pgm(
+    image: &[u16],
+    width: u32,
+    height: u32,
+    greatest: u32,
+    out: &mut [u8],
+) -> PgmWritten
+    ensures { λ r. ⌜ r ≡ writePgm width height greatest (now (image .entry)) (length (now (out .entry))) ⌝ }
+    ensures { λ _. ⌜ now (out .exit) ≡ outAfter (writePgm width height greatest (now (image .entry)) (length (now (out .entry))) .refusal)
+        (pgmOf width height greatest (now (image .entry))) (now (out .entry)) ⌝ }
+{
+    pgm_write::write_pgm(image, width, height, greatest, out)
 }
 
 // The ink percentage of a grey.
