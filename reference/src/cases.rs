@@ -13,6 +13,7 @@ mod plates;
 mod sides;
 mod touch;
 mod trim_edge;
+mod written;
 
 use std::collections::BTreeSet;
 
@@ -37,6 +38,7 @@ pub fn cases_text() -> String {
     chance::cases(&mut cases);
     new_form::cases(&mut cases);
     conversion::cases(&mut cases);
+    written::cases(&mut cases);
     let mut lines: Vec<String> = cases.iter().map(Case::line).collect();
     let mut seen = BTreeSet::new();
     lines.retain(|line| seen.insert(line.clone()));
@@ -130,12 +132,17 @@ impl Plate {
 
     /// The same, added to a case that lacks the plate.
     fn added_to(&self, begun: Case<'static>, connectivity: u32) -> Case<'static> {
+        self.shaped(begun)
+            .with("connectivity", connectivity)
+            .with("work", 8 * self.pixels() + 2)
+    }
+
+    /// The same without connectivity and work space.
+    fn shaped(&self, begun: Case<'static>) -> Case<'static> {
         begun
             .with("width", self.width)
             .with("height", self.height)
             .with("greatest", self.greatest)
-            .with("connectivity", connectivity)
-            .with("work", 8 * self.pixels() + 2)
             .painted(&self.greys)
     }
 

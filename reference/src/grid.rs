@@ -68,25 +68,30 @@ impl Shape {
     }
 }
 
-/// The checks that begin every operation on a plate: 1, 2, 29, 3, 28.
+/// The checks that begin every operation on a plate and its connectivity: 1, 2, 29, 3, 28.
 pub fn check_plate(plate: &[u16], shape: Shape) -> Result<Grid, u32> {
     if !is_connectivity(shape.connectivity) {
         return Err(1);
     }
-    if !is_size(shape.width, shape.height) {
+    check_greys(plate, shape.width, shape.height, shape.greatest)?;
+    Ok(Grid::new(shape.width, shape.height, shape.connectivity))
+}
+
+/// The checks of a plate without its connectivity: 2, 29, 3, 28.
+pub fn check_greys(plate: &[u16], width: u32, height: u32, greatest: u32) -> Result<(), u32> {
+    if !is_size(width, height) {
         return Err(2);
     }
-    if !is_greatest(shape.greatest) {
+    if !is_greatest(greatest) {
         return Err(29);
     }
-    let grid = Grid::new(shape.width, shape.height, shape.connectivity);
-    if plate.len() != grid.pixels() {
+    if plate.len() != (width * height) as usize {
         return Err(3);
     }
-    if any_above(plate, shape.greatest) {
+    if any_above(plate, greatest) {
         return Err(28);
     }
-    Ok(grid)
+    Ok(())
 }
 
 /// The steps, as rows down and columns right, to the pixels that share an edge,

@@ -24,6 +24,7 @@ pub mod text;
 pub mod varint;
 pub mod vectors;
 pub mod work;
+pub mod written;
 
 pub use cases::cases_text;
 pub use cleaning::{clean, DARK, LIGHT, SIDES};
@@ -39,6 +40,7 @@ pub use record::{cut_record, read_record, write_record, RecordHead, RecordLength
 pub use sizes::{size_list, SizeHead};
 pub use text::sizelist_text;
 pub use vectors::vectors_text;
+pub use written::{has_written_form, write_pgm, FileLength};
 
 /// The answer of an operation that says only whether it refused (0: it did not).
 #[derive(Clone, Copy, Debug, Default, PartialEq, Eq)]

@@ -57,7 +57,7 @@ fn read_checked(file: &[u8], out: &mut [u16]) -> Result<Numbers, u32> {
 }
 
 /// The bytes of a raster for each pixel: one up to a greatest grey of 255, then two.
-fn bytes_a_pixel(greatest: u32) -> usize {
+pub fn bytes_a_pixel(greatest: u32) -> usize {
     if greatest < 256 {
         1
     } else {
@@ -151,7 +151,7 @@ fn skip_gap(bytes: &[u8]) -> Option<&[u8]> {
 }
 
 /// Takes a number of one to five digits; a longer run of digits is none.
-fn take_number(bytes: &[u8]) -> Option<(u32, &[u8])> {
+pub fn take_number(bytes: &[u8]) -> Option<(u32, &[u8])> {
     let digits = bytes.iter().take_while(|b| b.is_ascii_digit()).count();
     if !(1..=5).contains(&digits) {
         return None;

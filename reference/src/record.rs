@@ -134,7 +134,7 @@ fn cut_checked(
     Ok(accepted)
 }
 
-/// Copies a plate or a record to the output, or 5 when that is shorter.
+/// Copies a plate, a record or a file to the output, or 5 when that is shorter.
 pub fn put<T: Copy>(answer: &[T], out: &mut [T]) -> Result<(), u32> {
     if out.len() < answer.len() {
         return Err(5);

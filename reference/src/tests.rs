@@ -12,3 +12,4 @@ mod refusals;
 mod slips;
 mod touch;
 mod trim_edge;
+mod written;

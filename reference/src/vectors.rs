@@ -18,6 +18,7 @@
 //! - `sizes`: a record, `counts`, `losses`, `work`
 //! - `old`, `new`: a record, `out`, `work`; it is converted to that form
 //! - `file`: a file, `out`
+//! - `pgm`: a plate without `connectivity`, `out`; its file is written
 //! - `header`: a file, `at` (where the header begins)
 //! - `text`: a file; what sizelist prints
 //! - `ink`: `greatest`, `greys`; refusal and percentage for each grey
@@ -47,6 +48,7 @@ fn answer(case: &Case) -> String {
         "old" => converted(case, to_old_form),
         "new" => converted(case, to_new_form),
         "file" => file(case),
+        "pgm" => pgm(case),
         "header" => header(case),
         "text" => text(case),
         "ink" => inks(case),
@@ -215,6 +217,14 @@ fn file(case: &Case) -> String {
         head.refusal, head.width, head.height, head.greatest
     );
     said + &barred(&out)
+}
+
+/// Writing a plate file.
+fn pgm(case: &Case) -> String {
+    let [w, h, m, _] = shape(case);
+    let mut out = case.lent("out", BYTE);
+    let written = write_pgm(&case.greys(), w, h, m, &mut out);
+    format!(" {} {}", written.refusal, written.length) + &barred(&out)
 }
 
 /// Reading the header that begins at a place.

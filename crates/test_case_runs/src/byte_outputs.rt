@@ -1,4 +1,4 @@
-// The cases with an output of bytes and a work space.
+// The cases with an output of bytes; all but `pgm` have a work space.
 use test_case_lines::cases::is_named;
 use test_case_lines::cases::places;
 use test_case_lines::cases::shape_of;
@@ -25,7 +25,7 @@ fn write(line: &[u8], greys: &[u16], out: &mut [u8], work: &mut [u32]) {
     ));
 }
 
-// Runs the case if it is one of these, and gives whether it is.
+// Runs the case if it is one of those with a work space, and gives whether it is.
 fn choose(line: &[u8], bytes: &[u8], greys: &[u16], out: &mut [u8], work: &mut [u32]) -> bool {
     if is_named(line, b"write") {
         write(line, greys, out, work);
@@ -42,7 +42,20 @@ fn choose(line: &[u8], bytes: &[u8], greys: &[u16], out: &mut [u8], work: &mut [
     false
 }
 
+fn pgm(line: &[u8], greys: &[u16], out: &mut [u8]) {
+    let s = shape_of(line);
+    let written = pgm_write::write_pgm(greys, s.width, s.height, s.greatest, out);
+    print_number(written.refusal as u64);
+    print_number(written.length as u64);
+    print_bar();
+    print_bytes(out);
+}
+
 fn run_lent(line: &[u8], bytes: &[u8], greys: &[u16], out: &mut [u8], work: &mut [u32]) -> bool {
+    if is_named(line, b"pgm") {
+        pgm(line, greys, out);
+        return true;
+    }
     if choose(line, bytes, greys, out, work) {
         print_bar();
         print_bytes(out);

@@ -13,6 +13,7 @@
 //     cut                a record, limit, out, work
 //     sizes              a record, counts, losses, work
 //     file               a file, out
+//     pgm                a plate without its connectivity, out: its file
 //     header             a file, at (where the header begins)
 //     text               a file: what sizelist prints
 //     ink                greatest, greys: refusal and percentage of each
@@ -91,11 +92,11 @@ fn run_input(file: &mut [u8]) {
 }
 
 // The array goes by reference, as above.
-fn whole_file(file: &mut [u8; 1048576]) {
+fn whole_file(file: &mut [u8; 1310720]) {
     run_input(file);
 }
 
 fn main() {
-    let mut file = [0u8; 1048576];
+    let mut file = [0u8; 1310720];
     whole_file(&mut file);
 }

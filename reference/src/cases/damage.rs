@@ -154,14 +154,15 @@ pub fn spaced(record: &[u8], lengths: Range<usize>, cases: &mut Vec<Case>) {
     }
 }
 
-/// A record with fields of two bytes, cut short in many places.
+/// A record with fields of two bytes, cut short and changed in many places.
 fn long_fields(cases: &mut Vec<Case>) {
     let plate = Plate::new(20, 9, |p| (p * 89 % 211) as u16);
     let record = plate.described(8).old;
-    for length in (0..=record.len()).step_by(150) {
+    let every = |step: usize| (0..record.len()).filter(move |at| at % step == 0 || at % 150 == 0);
+    for length in every(23) {
         with_places("read", &record[..length], 180, 1_440, cases);
     }
-    for i in (0..record.len()).step_by(150) {
+    for i in every(34) {
         let mut other = record.clone();
         other[i] ^= 1;
         with_places("read", &other, 180, 1_441, cases);

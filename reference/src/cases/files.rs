@@ -1,6 +1,7 @@
 //! Plate files, what sizelist prints for them, and ink.
 
 use super::{Case, Plate};
+use crate::written;
 
 /// All of them.
 pub fn cases(cases: &mut Vec<Case>) {
@@ -49,20 +50,26 @@ fn header(file: &[u8], at: usize) -> Case<'static> {
 }
 
 /// The header alone, at the beginning of a file and after another plate file;
-/// and sought a byte too early and a byte too late.
+/// and sought a byte too early, a byte too late, at the end and beyond it.
 fn placed(file: &[u8], cases: &mut Vec<Case>) {
     cases.push(header(file, 0));
     let first = file_of(&Plate::new(1, 1, |_| 7));
     let both = [&first, file].concat();
-    for at in first.len() - 1..=first.len() + 1 {
+    let near = first.len() - 1..=first.len() + 1;
+    for at in near.chain(ends(&both)) {
         cases.push(header(&both, at));
     }
+}
+
+/// The end of a file and places beyond it.
+fn ends(file: &[u8]) -> [usize; 3] {
+    [file.len(), file.len() + 1, u32::MAX as usize]
 }
 
 /// A header sought at the end of a file and beyond it.
 fn beyond(cases: &mut Vec<Case>) {
     for file in [&b""[..], b"P5 1 1 255 a", b"P5 1 1 255 P5 1 1 255 a"] {
-        for at in [file.len(), file.len() + 1, u32::MAX as usize] {
+        for at in ends(file) {
             cases.push(header(file, at));
         }
     }
@@ -240,11 +247,7 @@ fn texts() -> Vec<Plate> {
 
 /// The plate's file.
 pub fn file_of(plate: &Plate) -> Vec<u8> {
-    let header = format!("P5\n{} {}\n{}\n", plate.width, plate.height, plate.greatest);
-    let unused = if plate.greatest < 256 { 1 } else { 0 };
-    let greys = plate.greys.iter();
-    let raster = greys.flat_map(|grey| grey.to_be_bytes().into_iter().skip(unused));
-    header.into_bytes().into_iter().chain(raster).collect()
+    written::file_of(&plate.greys, plate.width, plate.height, plate.greatest)
 }
 
 /// Inputs of about 4,096 bytes: sound ones, and ones that are nothing.

@@ -1,7 +1,6 @@
 //! Writing a record, cutting it and listing its sizes by one call: each
 //! buffer that just fits and that just does not, alone and with others.
 
-use super::plates::LARGE;
 use super::{Case, Plate};
 use crate::CONNECTIVITIES;
 
@@ -23,9 +22,7 @@ pub fn cases(cases: &mut Vec<Case>) {
             for limit in super::plates::limits(plate.pixels()) {
                 cases.push(ample.clone().with("limit", limit));
             }
-            if connectivity == 8 || plate.pixels() <= LARGE {
-                lengths(&plate, connectivity, cases);
-            }
+            lengths(&plate, connectivity, cases);
         }
     }
     short(cases);

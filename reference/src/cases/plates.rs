@@ -54,16 +54,9 @@ pub fn ring_of(p: u32, width: u32, height: u32) -> u16 {
     x.min(y).min(width - 1 - x).min(height - 1 - y) as u16
 }
 
-/// A plate of more pixels is in fewer cases.
-pub const LARGE: usize = 100;
-
-/// Limits from 0 to the pixels and one more: the ends and some between; for a large
-/// plate, whose case is a long line, only two.
+/// Limits from 0 to the pixels and one more: the ends and some between.
 pub fn limits(pixels: usize) -> Vec<u32> {
     let n = pixels as u32;
-    if pixels > LARGE {
-        return vec![2, n / 2];
-    }
     let mut limits = vec![0, 1, 2, 3, n / 2, n.saturating_sub(1), n, n + 1];
     limits.sort_unstable();
     limits.dedup();

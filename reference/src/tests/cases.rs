@@ -17,8 +17,8 @@ fn answers(text: &str, name: &str) -> BTreeSet<u32> {
 }
 
 /// The numbers that each operation answers: six on plates, three on records that both
-/// forms share, then two conversions, two on files.
-const NUMBERS: [(&str, &[u32]); 13] = [
+/// forms share, then two conversions, two on files, writing a file.
+const NUMBERS: [(&str, &[u32]); 14] = [
     ("clean", &[0, 1, 2, 3, 4, 5, 6, 26, 28, 29]),
     ("maxima", &[0, 1, 2, 3, 5, 6, 28, 29]),
     ("nodes", &[0, 1, 2, 3, 5, 6, 28, 29]),
@@ -32,6 +32,7 @@ const NUMBERS: [(&str, &[u32]); 13] = [
     ("new", &[0, 5, 6, 20, 21, 22, 23, 24]),
     ("file", &[0, 2, 5, 10, 11, 12, 14, 15, 28]),
     ("header", &[0, 10, 11]),
+    ("pgm", &[0, 2, 3, 5, 28, 29]),
 ];
 
 #[test]
@@ -155,7 +156,7 @@ fn most_places(case: &Case, field: &str) -> u32 {
 
 #[test]
 fn the_program_holds_every_case() {
-    assert!(cases_text().len() <= 1_048_576);
+    assert!(cases_text().len() <= 1_310_720);
     let buffers = ["work", "out", "record", "counts", "losses"];
     let columns = ["levels", "parents", "areas", "anchors"];
     for line in cases_text().lines() {
@@ -192,6 +193,10 @@ fn the_specifications_examples() {
     holds(
         &format!("write {plate} out 31 {SMALL_GREYS}"),
         &format!("write 0 31 | 0 2 255 1 {SMALL_FIELDS} | 0*96 7*2"),
+    );
+    holds(
+        &format!("pgm width 4 height 3 greatest 255 out 24 {SMALL_GREYS}"),
+        "pgm 0 23 | 80 53 10 52 32 51 10 50 53*2 10*6 50 30 10*4 90 170",
     );
     // the first byte 132, followed by 0
     holds(

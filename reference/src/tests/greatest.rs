@@ -138,25 +138,6 @@ fn a_raster_has_one_byte_a_pixel_up_to_255_and_then_two() {
 }
 
 #[test]
-fn plate_files_of_random_plates_read_back() {
-    let mut random = Lcg(60);
-    for _ in 0..300 {
-        let (plate, width, height, greatest) = random.plate(7);
-        let file = plate_file(&plate, width, height, greatest);
-        let mut out = vec![GREY; plate.len()];
-        let answer = read_pgm(&file, &mut out);
-        assert_eq!((answer.refusal, answer.greatest), (0, greatest));
-        assert_eq!(out, plate);
-        let mut out = vec![GREY; plate.len() + 1];
-        let short = read_pgm(&file[..file.len() - 1], &mut out);
-        assert_eq!(short.refusal, 14);
-        let long = read_pgm(&[&file[..], &[0]].concat(), &mut out);
-        assert_eq!(long.refusal, 15);
-        assert!(all_are(&out, GREY));
-    }
-}
-
-#[test]
 fn ink_gives_29_then_28() {
     let refused = |refusal| Ink {
         refusal,

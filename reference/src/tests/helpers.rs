@@ -284,16 +284,14 @@ pub fn beginnings() -> impl Iterator<Item = &'static [u8]> {
     records.flat_map(|record| (0..record.len()).map(move |length| &record[..length]))
 }
 
-/// A plate file with the usual header.
-pub fn plate_file(plate: &[u16], width: u32, height: u32, greatest: u32) -> Vec<u8> {
-    let mut file = format!("P5\n{width} {height}\n{greatest}\n").into_bytes();
-    for &grey in plate {
-        match greatest {
-            0..=255 => file.push(grey as u8),
-            _ => file.extend([(grey / 256) as u8, (grey % 256) as u8]),
-        }
-    }
-    file
+/// Writes a plate file with an ample output, checks the excess, returns the file.
+pub fn plate_file(plate: &[u16], w: u32, h: u32, m: u32) -> Vec<u8> {
+    let mut out = vec![BYTE; 2 * plate.len() + 21 + EXCESS];
+    let answer = write_pgm(plate, w, h, m, &mut out);
+    assert_eq!(answer.refusal, 0);
+    assert!(answer.length + EXCESS <= out.len() && all_are(&out[answer.length..], BYTE));
+    out.truncate(answer.length);
+    out
 }
 
 /// The plate with a border one pixel wide of a grey: none of its pixels is on the
