@@ -1,6 +1,6 @@
 # The README's commands: `make demo` and `make test` each do their own set-up. `rt` is the Rattle kit's command; cargo
 # builds without a network.
-.PHONY: all library shared demo test gate check reference peers bench install uninstall clean tools
+.PHONY: all library shared demo test gate check reference peers netpbm bench install uninstall clean tools
 
 HOST := --offline --manifest-path host/Cargo.toml
 SECOND := --offline --manifest-path reference/Cargo.toml
@@ -82,10 +82,13 @@ reference:
 	reference/target/release/reference sizelist <crates/sizelist/stdin | cmp - crates/sizelist/stdout
 	reference/target/release/reference deep | cmp - crates/test_pgm_deep/stdout
 
-# what `make bench` compares with, on Debian; without them it leaves them out
-peers:
+# on Debian: what `make bench` compares with, and Netpbm, whose tools `make test` runs on plate files; without them both
+# leave out what needs them
+peers: PACKAGES := python3-skimage libinsighttoolkit5-dev g++
+netpbm: PACKAGES := netpbm
+peers netpbm:
 	apt-get update
-	apt-get install --yes --no-install-recommends python3-skimage libinsighttoolkit5-dev g++
+	apt-get install --yes --no-install-recommends $(PACKAGES)
 
 # writes docs/BENCHMARKS.md and docs/benchmarks.svg; the engine on 16-bit greys is measured through an archive of its own
 bench: library

@@ -6,7 +6,9 @@
 //! refusal ahead of it is answered.
 
 mod c {
-    use super::{Ink, JointHead, Node, NodeCount, PlateHead, RecordHead, RecordLength, SizeHead};
+    use super::{
+        FileLength, Ink, JointHead, Node, NodeCount, PlateHead, RecordHead, RecordLength, SizeHead,
+    };
 
     extern "C" {
         pub fn livukoe_clean(
@@ -75,6 +77,16 @@ mod c {
             out: *mut u16,
             out_length: usize,
         ) -> PlateHead;
+
+        pub fn livukoe_write_pgm(
+            image: *const u16,
+            image_length: usize,
+            width: u32,
+            height: u32,
+            greatest: u32,
+            out: *mut u8,
+            out_length: usize,
+        ) -> FileLength;
 
         pub fn livukoe_write_record(
             image: *const u16,
@@ -191,6 +203,14 @@ pub struct PlateHead {
     pub width: u32,
     pub height: u32,
     pub greatest: u32,
+}
+
+/// What writing a plate file answers: its length in bytes.
+#[repr(C)]
+#[derive(Clone, Copy, Debug, Default, PartialEq, Eq)]
+pub struct FileLength {
+    pub refusal: u32,
+    pub length: usize,
 }
 
 /// What writing a record and converting it answer: its length in bytes.
@@ -328,6 +348,18 @@ pub fn node_entries(image: Image, list: &mut [Node], work: &mut [u32]) -> NodeCo
 /// Reads a plate file. An output of as many numbers as the file has bytes is always long enough.
 pub fn read_pgm(file: &[u8], out: &mut [u16]) -> PlateHead {
     call!(c::livukoe_read_pgm, read file, write out)
+}
+
+/// Writes the plate file of a plate, in the one form that is written. An output of two bytes for each pixel and 21 more is
+/// always long enough.
+pub fn write_pgm(
+    image: &[u16],
+    width: u32,
+    height: u32,
+    greatest: u32,
+    out: &mut [u8],
+) -> FileLength {
+    call!(c::livukoe_write_pgm, read image, width, height, greatest, write out)
 }
 
 /// Writes the record of a plate with its connectivity, in the new form.

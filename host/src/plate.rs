@@ -7,10 +7,13 @@ use crate::lent::{self, Image, Node};
 use crate::record::Record;
 use crate::refusal::Refusal;
 use crate::work::{zeroed_nodes, WorkSpace};
-use crate::{Connectivity, Side, BYTE_GREATEST, MAX_EXTENT, MAX_GREATEST, MAX_PIXELS};
+use crate::{Connectivity, Side, BYTE_GREATEST, MAX_PIXELS};
 
-/// How many greys of a plate file are made ready at a time.
-const GREYS_AT_A_TIME: usize = 1 << 14;
+/// The most bytes that a pixel has in a plate file.
+const BYTES_A_PIXEL: usize = 2;
+/// The most bytes of the header of a plate file that is written: "P5" and three numbers of five digits, each with one
+/// blank behind it.
+const HEADER_BYTES: usize = 21;
 
 /// A grey image: greys row by row from the top left, 0 for full ink to the greatest grey, 1 to 65535, for bare paper.
 ///
@@ -96,8 +99,35 @@ impl Plate {
         Ok(Plate::new(head.width, head.height, head.greatest, greys))
     }
 
-    /// Writes the plate file of this plate, which reads back as it. Nothing is written where there is no such file: the
-    /// error then holds the [`Refusal`], 2, 29, 3 or 28.
+    /// The plate file of this plate, which reads back as it. It has no comments and no leading zeros, and is the one file
+    /// of that form. Where there is none, the refusal is 2, 29, 3 or 28.
+    ///
+    /// ```
+    /// use livukoe::{Plate, Refusal};
+    ///
+    /// let file = Plate::new(2, 1, 255, vec![7, 9]).to_pgm()?;
+    /// assert_eq!(file, b"P5\n2 1\n255\n\x07\x09");
+    /// let file = Plate::new(2, 1, 1000, vec![7, 1000]).to_pgm()?;
+    /// assert_eq!(file, b"P5\n2 1\n1000\n\x00\x07\x03\xe8");
+    /// assert_eq!(Plate::new(2, 1, 8, vec![7, 9]).to_pgm(), Err(Refusal::Grey));
+    /// # Ok::<(), livukoe::Refusal>(())
+    /// ```
+    pub fn to_pgm(&self) -> Result<Vec<u8>, Refusal> {
+        let mut file = vec![0; BYTES_A_PIXEL * self.places() + HEADER_BYTES];
+        let answer = lent::write_pgm(
+            &self.greys,
+            self.width,
+            self.height,
+            self.greatest,
+            &mut file,
+        );
+        Refusal::check(answer.refusal)?;
+        file.truncate(answer.length);
+        file.shrink_to_fit();
+        Ok(file)
+    }
+
+    /// Writes [`Plate::to_pgm`]. Nothing is written where there is no such file: the error then holds the [`Refusal`].
     ///
     /// ```
     /// use livukoe::Plate;
@@ -111,45 +141,7 @@ impl Plate {
     /// ```
     pub fn write_pgm(&self, mut out: impl Write) -> io::Result<()> {
         let refused = |refusal| io::Error::new(io::ErrorKind::InvalidInput, refusal);
-        self.check_file().map_err(refused)?;
-        write!(
-            out,
-            "P5\n{} {}\n{}\n",
-            self.width, self.height, self.greatest
-        )?;
-        for greys in self.greys.chunks(GREYS_AT_A_TIME) {
-            out.write_all(&self.raster(greys))?;
-        }
-        Ok(())
-    }
-
-    /// Greys as a plate file with this greatest grey has them.
-    fn raster(&self, greys: &[u16]) -> Vec<u8> {
-        if self.greatest <= BYTE_GREATEST {
-            greys.iter().map(|&grey| grey as u8).collect()
-        } else {
-            greys.iter().flat_map(|grey| grey.to_be_bytes()).collect()
-        }
-    }
-
-    /// Why there is no plate file of this plate.
-    fn check_file(&self) -> Result<(), Refusal> {
-        let (extent, pixels) = (1..=MAX_EXTENT, self.width as usize * self.height as usize);
-        if !extent.contains(&self.width) || !extent.contains(&self.height) || pixels > MAX_PIXELS {
-            Err(Refusal::Grid)
-        } else if !(1..=MAX_GREATEST).contains(&self.greatest) {
-            Err(Refusal::Greatest)
-        } else if self.greys.len() != pixels {
-            Err(Refusal::PlateLength)
-        } else if self
-            .greys
-            .iter()
-            .any(|&grey| u32::from(grey) > self.greatest)
-        {
-            Err(Refusal::Grey)
-        } else {
-            Ok(())
-        }
+        out.write_all(&self.to_pgm().map_err(refused)?)
     }
 
     /// The plate in a frame of this grey, one pixel wide.

@@ -1,11 +1,13 @@
 //! Large plates, which the second program cannot do, by what is cheap to check: idempotence, nowhere lighter, the cut of
-//! the record, the totals of the size list, areas about 65,536.
+//! the record, the totals of the size list, areas about 65,536. The operations of a test share a work space: to get a
+//! new one of 16,777,216 pixels takes as long as some of them take.
 
 mod common;
 
 use common::Chance;
 use livukoe::pictures::{self, fine_picture, picture};
-use livukoe::{Connectivity, Plate, Side};
+use livukoe::Connectivity::{self, Eight, Four, Six};
+use livukoe::{Plate, Side, WorkSpace};
 
 fn total(plate: &Plate) -> u64 {
     plate.greys().iter().map(|&grey| u64::from(grey)).sum()
@@ -28,31 +30,36 @@ fn assert_nowhere_lighter(one: &Plate, other: &Plate) {
 }
 
 /// The plate without its light patches below a limit.
-fn without_light(plate: &Plate, connectivity: Connectivity, limit: u32) -> Plate {
-    let clean = plate.clean(Side::Light, connectivity, limit);
+fn without_light(
+    work: &mut WorkSpace,
+    plate: &Plate,
+    connectivity: Connectivity,
+    limit: u32,
+) -> Plate {
+    let clean = work.clean(plate, Side::Light, connectivity, limit);
     clean.expect("a clean plate")
 }
 
 /// What holds of cleaning at a limit.
-fn check_cleaning(plate: &Plate, connectivity: Connectivity, limit: u32) {
-    let light = without_light(plate, connectivity, limit);
+fn check_cleaning(work: &mut WorkSpace, plate: &Plate, connectivity: Connectivity, limit: u32) {
+    let light = without_light(work, plate, connectivity, limit);
     assert_nowhere_lighter(&light, plate);
-    let again = without_light(&light, connectivity, limit);
+    let again = without_light(work, &light, connectivity, limit);
     assert_eq!(again, light, "cleaned twice");
-    let smaller = without_light(&light, connectivity, limit.div_ceil(2));
+    let smaller = without_light(work, &light, connectivity, limit.div_ceil(2));
     assert_eq!(smaller, light, "cleaned at a smaller limit");
-    let dark = negative(plate).clean(Side::Dark, connectivity, limit);
+    let dark = work.clean(&negative(plate), Side::Dark, connectivity, limit);
     let dark = dark.expect("a clean plate");
     assert_eq!(negative(&dark), light, "the dark side of the negative");
 }
 
 /// What holds of a plate's record.
-fn check_record(plate: &Plate, connectivity: Connectivity, limit: u32) {
-    let record = plate.record(connectivity).expect("a record");
-    assert_eq!(record.plate().expect("its plate"), *plate);
-    let clean = without_light(plate, connectivity, limit);
-    assert_eq!(record.cut(limit).expect("a cut"), clean);
-    let sizes = record.sizes().expect("a size list");
+fn check_record(work: &mut WorkSpace, plate: &Plate, connectivity: Connectivity, limit: u32) {
+    let record = work.record(plate, connectivity).expect("a record");
+    assert_eq!(work.plate(&record).expect("its plate"), *plate);
+    let clean = without_light(work, plate, connectivity, limit);
+    assert_eq!(work.cut(&record, limit).expect("a cut"), clean);
+    let sizes = work.sizes(&record).expect("a size list");
     let lost: u64 = sizes.sizes().map(|size| size.loss).sum();
     let rest = u64::from(sizes.darkest()) * plate.greys().len() as u64;
     assert_eq!(lost + sizes.held() + rest, total(plate), "all grey");
@@ -64,15 +71,15 @@ fn check_record(plate: &Plate, connectivity: Connectivity, limit: u32) {
         "lost below the limit"
     );
     let counted: u64 = sizes.sizes().map(|size| u64::from(size.count)).sum();
-    let kept = without_light(plate, connectivity, plate.greys().len() as u32);
+    let kept = without_light(work, plate, connectivity, plate.greys().len() as u32);
     assert_eq!(sizes.held() + rest, total(&kept), "what no limit takes");
-    let on_edge = kept.nodes(connectivity).expect("nodes").len() as u64;
+    let on_edge = work.nodes(&kept, connectivity).expect("nodes").len() as u64;
     assert_eq!(counted + on_edge, u64::from(sizes.nodes()), "every node");
 }
 
 /// What holds of a plate's nodes and its maxima.
-fn check_nodes(plate: &Plate, connectivity: Connectivity) {
-    let nodes = plate.nodes(connectivity).expect("nodes");
+fn check_nodes(work: &mut WorkSpace, plate: &Plate, connectivity: Connectivity) {
+    let nodes = work.nodes(plate, connectivity).expect("nodes");
     assert_eq!(nodes[0].area as usize, plate.greys().len());
     let mut leaf = vec![true; nodes.len()];
     for (number, node) in nodes.iter().enumerate().skip(1) {
@@ -83,7 +90,7 @@ fn check_nodes(plate: &Plate, connectivity: Connectivity) {
         assert_eq!(u32::from(plate.greys()[node.anchor as usize]), node.level);
         leaf[node.parent as usize] = false;
     }
-    let marks = plate.regional_maxima(connectivity).expect("marks");
+    let marks = work.regional_maxima(plate, connectivity).expect("marks");
     let marked: u64 = total(&marks);
     let leaves = nodes.iter().zip(&leaf).filter(|(_, &leaf)| leaf);
     let area: u64 = leaves.map(|(node, _)| u64::from(node.area)).sum();
@@ -99,13 +106,14 @@ fn every_picture(width: u32, height: u32) -> impl Iterator<Item = Plate> {
 
 #[test]
 fn every_kind_of_picture() {
+    let work = &mut WorkSpace::new();
     for plate in every_picture(700, 500) {
         for connectivity in Connectivity::ALL {
             for limit in [1, 2, 64, 65_536, 350_000] {
-                check_cleaning(&plate, connectivity, limit);
+                check_cleaning(work, &plate, connectivity, limit);
             }
-            check_record(&plate, connectivity, 64);
-            check_nodes(&plate, connectivity);
+            check_record(work, &plate, connectivity, 64);
+            check_nodes(work, &plate, connectivity);
         }
     }
 }
@@ -118,44 +126,73 @@ fn turned(plate: &Plate) -> Plate {
 /// With more neighbours a cleaned plate is nowhere darker; a turned plate is cleaned as the plate is.
 #[test]
 fn the_kinds_compared() {
+    let work = &mut WorkSpace::new();
     for (number, plate) in every_picture(700, 500).enumerate() {
-        let clean = Connectivity::ALL.map(|connectivity| without_light(&plate, connectivity, 64));
+        let clean =
+            Connectivity::ALL.map(|connectivity| without_light(work, &plate, connectivity, 64));
         for pair in clean.windows(2) {
             assert_nowhere_lighter(&pair[0], &pair[1]);
         }
         for (connectivity, clean) in Connectivity::ALL.into_iter().zip(clean) {
-            let after = without_light(&turned(&plate), connectivity, 64);
+            let after = without_light(work, &turned(&plate), connectivity, 64);
             assert_eq!(turned(&after), clean, "picture {number}, {connectivity}");
         }
     }
 }
 
+/// What holds of a plate's file.
+fn check_file(plate: &Plate) {
+    let file = plate.to_pgm().expect("a file");
+    assert_eq!(Plate::from_pgm(&file).expect("its plate"), *plate);
+}
+
+/// What holds of a plate of as many pixels as there may be: its file, its cleaning, its nodes and its record, each with a
+/// connectivity of its own.
+fn check_largest(
+    work: &mut WorkSpace,
+    plate: &Plate,
+    [cleaned, listed, recorded]: [Connectivity; 3],
+) {
+    check_file(plate);
+    check_cleaning(work, plate, cleaned, 65_536);
+    check_nodes(work, plate, listed);
+    check_record(work, plate, recorded, 100);
+}
+
+/// Noise: of 8 bits its nodes, thousands of them at each level; of 16 bits, which has every level and the longest record,
+/// all.
 #[test]
-fn the_largest_plates() {
-    let makers: [fn() -> Plate; 5] = [
-        || picture("noise", 4096, 4096),
-        || picture("terrain", 32_768, 512),
-        || picture("serpentine", 512, 32_768),
-        || fine_picture("noise", 4096, 4096),
-        || fine_picture("serpentine", 32_768, 512),
-    ];
-    for make in makers {
-        let plate = make();
-        check_cleaning(&plate, Connectivity::Four, 65_536);
-        check_record(&plate, Connectivity::Eight, 100);
-        check_nodes(&plate, Connectivity::Four);
-        check_nodes(&plate, Connectivity::Six);
-    }
+fn the_largest_squares() {
+    let work = &mut WorkSpace::new();
+    let coarse = picture("noise", 4096, 4096);
+    check_file(&coarse);
+    check_nodes(work, &coarse, Four);
+    drop(coarse);
+    let fine = fine_picture("noise", 4096, 4096);
+    check_largest(work, &fine, [Four, Six, Eight]);
+}
+
+#[test]
+fn the_longest_rows() {
+    let plate = picture("terrain", 32_768, 512);
+    check_largest(&mut WorkSpace::new(), &plate, [Six, Eight, Four]);
+}
+
+#[test]
+fn the_longest_columns() {
+    let plate = picture("serpentine", 512, 32_768);
+    check_largest(&mut WorkSpace::new(), &plate, [Eight, Four, Six]);
 }
 
 #[test]
 fn long_and_thin() {
+    let work = &mut WorkSpace::new();
     for (width, height) in [(32_768, 1), (1, 32_768), (32_768, 2), (3, 32_768)] {
         for make in [picture, fine_picture] {
             let plate = make("noise", width, height);
             for connectivity in Connectivity::ALL {
-                check_cleaning(&plate, connectivity, 5);
-                check_record(&plate, connectivity, 5);
+                check_cleaning(work, &plate, connectivity, 5);
+                check_record(work, &plate, connectivity, 5);
             }
         }
     }
@@ -219,11 +256,12 @@ fn patch(pixels: usize) -> Plate {
 /// A patch stays at every limit up to its area, and goes at the next.
 #[test]
 fn patches_about_65536() {
+    let work = &mut WorkSpace::new();
     for area in [65_535, 65_536, 65_537, 131_072 - 65_536 + 1] {
         let plate = patch(area);
         for limit in 65_534..=65_540u32 {
             for connectivity in Connectivity::ALL {
-                let clean = without_light(&plate, connectivity, limit);
+                let clean = without_light(work, &plate, connectivity, limit);
                 let stays = limit as usize <= area;
                 assert_eq!(
                     clean.greys()[FIRST],
@@ -252,6 +290,7 @@ fn patches_about_65536() {
 /// stay whole.
 #[test]
 fn strewn_patches() {
+    let work = &mut WorkSpace::new();
     let mut chance = Chance::new(13);
     let (width, height) = (1200usize, 900usize);
     let mut greys = vec![10u16; width * height];
@@ -269,7 +308,7 @@ fn strewn_patches() {
     }
     let plate = Plate::new(width as u32, height as u32, 255, greys);
     for connectivity in Connectivity::ALL {
-        let clean = without_light(&plate, connectivity, 25);
+        let clean = without_light(work, &plate, connectivity, 25);
         assert!(clean.greys() == wanted);
     }
 }

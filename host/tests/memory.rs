@@ -38,10 +38,19 @@ fn what_is_touched() {
             assert_eq!(record.to_form(form), Err(refusal));
         }
     }
+    // and no grey for 4096 x 4096 pixels: refused without the space of their file
+    let none = Plate::new(4096, 4096, 255, Vec::new());
+    assert_eq!(none.to_pgm(), Err(Refusal::PlateLength));
     assert!(most_mebibytes() < 40, "{} MiB", most_mebibytes());
 
-    // the node list of a flat plate has one node: the plate is 32 MiB, its work space 512
+    // the file of a plate of 32 MiB has a byte a pixel, 16 MiB
     let plate = Plate::new(4096, 4096, 255, vec![9; MAX_PIXELS]);
+    let file = plate.to_pgm().expect("a file");
+    assert_eq!(file.len(), file.capacity());
+    assert!(most_mebibytes() < 60, "{} MiB", most_mebibytes());
+    drop(file);
+
+    // the node list of a flat plate has one node: the plate is 32 MiB, its work space 512
     let nodes = plate.nodes(Connectivity::Four).expect("nodes");
     assert_eq!((nodes.len(), nodes.capacity()), (1, 1));
     assert!(most_mebibytes() < 600, "{} MiB", most_mebibytes());

@@ -1,8 +1,9 @@
-//! Reading plate files against the second program: headers of every shape, damaged files, short and long outputs.
+//! Reading plate files against the second program: headers of every shape, damaged files, short and long outputs. Writing
+//! them: sizes and greatest greys right and wrong, every number of digits.
 
 mod common;
 
-use common::{Chance, Seen};
+use common::{Chance, Plate, Seen};
 use livukoe::lent;
 
 const CASES: u64 = 200_000;
@@ -121,4 +122,68 @@ fn long_headers() {
         assert_eq!((answer.refusal, answer.width, answer.height), (0, 1, 1));
         assert_eq!(out, [7]);
     }
+}
+
+/// Writes the file of a plate into an output that is not always long enough.
+fn compare_writing(chance: &mut Chance, plate: &Plate) -> u32 {
+    let mut out = chance.buffer(plate.file_by_reference().len());
+    let mut out2 = out.clone();
+    let (width, height, greatest, _) = plate.numbers();
+    let answer = lent::write_pgm(&plate.greys, width, height, greatest, &mut out);
+    let wanted = plate.write_by_reference(&mut out2);
+    let numbers = (wanted.refusal, wanted.length);
+    assert_eq!((answer.refusal, answer.length), numbers, "{plate:?}");
+    assert_eq!(out, out2, "{plate:?}");
+    answer.refusal
+}
+
+#[test]
+fn writing() {
+    let (mut chance, mut seen) = (Chance::new(28), Seen::default());
+    for case in 0..CASES {
+        let plate = chance.job(if case % 1_000 == 0 { 60 } else { 7 });
+        seen.note(compare_writing(&mut chance, &plate));
+    }
+    seen.assert_all(&[0, 2, 3, 5, 28, 29]);
+}
+
+/// Every greatest grey that a plate may have, and some that none has, on the greys about it.
+#[test]
+fn writing_greatest_greys() {
+    let (mut chance, mut seen) = (Chance::new(29), Seen::default());
+    for greatest in (0..70_000).chain([1 << 24, u32::MAX]) {
+        let top = greatest.min(65_535) as u16;
+        let next = top.saturating_add(chance.below(2) as u16); // one above, now and then
+        let plate = Plate {
+            width: 3,
+            height: 1,
+            greatest,
+            connectivity: 4,
+            greys: vec![0, top / 2, next],
+        };
+        seen.note(compare_writing(&mut chance, &plate));
+    }
+    seen.assert_all(&[0, 5, 28, 29]);
+}
+
+/// Widths and heights of every number of digits, and beyond the grid.
+#[test]
+fn writing_sizes() {
+    const EXTENTS: [u32; 16] = [
+        0, 1, 9, 10, 11, 99, 100, 101, 999, 1_000, 1_001, 9_999, 10_000, 32_767, 32_768, 32_769,
+    ];
+    let (mut chance, mut seen) = (Chance::new(30), Seen::default());
+    let sizes = EXTENTS.map(|extent| [(extent, 1), (1, extent), (extent, 13), (13, extent)]);
+    for (width, height) in [sizes; 3].into_iter().flatten().flatten() {
+        let greys = (0..width * height).map(|_| chance.below(256) as u16);
+        let plate = Plate {
+            width,
+            height,
+            connectivity: 4,
+            greys: greys.collect(),
+            greatest: chance.pick(&[255, 256]),
+        };
+        seen.note(compare_writing(&mut chance, &plate));
+    }
+    seen.assert_all(&[0, 2, 5]);
 }

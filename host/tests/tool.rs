@@ -283,7 +283,7 @@ fn an_endless_input_is_refused() {
 fn other_formats() {
     for (input, what, command) in [
         (&b"P1 1 1 0"[..], "a plain PBM", "pgmtopgm"),
-        (b"P2 1 1 255 7", "a plain PGM", "pnmtopnm"),
+        (b"P2 1 1 255 7", "a plain PGM", "pgmtopgm"),
         (b"P3 1 1 255 7 7 7", "a plain PPM", "ppmtopgm"),
         (b"P4 1 1\n\x80", "a raw PBM", "pgmtopgm"),
         (b"P6 1 1 255\n\x07\x07\x07", "a raw PPM", "ppmtopgm"),

@@ -32,15 +32,20 @@ fn plates_that_are_none() {
         (Plate::new(0, 0, 255, vec![]), Refusal::Grid),
         (Plate::new(32_769, 1, 0, vec![0; 32_769]), Refusal::Grid),
         (Plate::new(65_536, 65_536, 255, vec![]), Refusal::Grid),
+        (Plate::new(u32::MAX, u32::MAX, 255, vec![]), Refusal::Grid),
+        (Plate::new(4096, 4096, 255, vec![]), Refusal::PlateLength),
         (Plate::new(2, 2, 0, vec![0; 3]), Refusal::Greatest),
         (Plate::new(2, 2, 65_536, vec![0; 4]), Refusal::Greatest),
         (Plate::new(2, 2, 255, vec![256; 3]), Refusal::PlateLength),
         (Plate::new(2, 2, 255, vec![0; 5]), Refusal::PlateLength),
         (Plate::new(2, 1, 7, vec![0, 8]), Refusal::Grey),
     ] {
+        assert_eq!(plate.to_pgm(), Err(refusal));
         let mut file = Vec::new();
         let error = plate.write_pgm(&mut file).expect_err("no file");
-        assert_eq!(error.to_string(), refusal.to_string());
+        assert_eq!(error.kind(), std::io::ErrorKind::InvalidInput);
+        let held = error.into_inner().expect("what it holds");
+        assert_eq!(held.downcast_ref(), Some(&refusal));
         assert_eq!(file, []);
         for connectivity in Connectivity::ALL {
             for side in Side::ALL {
@@ -207,21 +212,37 @@ fn forms_by_name() {
     }
 }
 
-/// What is written as a plate file is read as the plate, and has the form that the second program reads.
+/// The plate file is what the second program writes, refusals included, and is read as the plate.
 #[test]
 fn plate_files() {
     let mut chance = Chance::new(26);
-    for _ in 0..20_000 {
-        let job = chance.plate(9);
-        let mut file = Vec::new();
-        job.owned().write_pgm(&mut file).expect("a file");
-        assert_eq!(file, job.file());
-        assert_eq!(Plate::from_pgm(&file), Ok(job.owned()));
+    for _ in 0..40_000 {
+        let job = chance.job(9);
+        let mut bytes = job.file_by_reference();
+        let refusal = job.write_by_reference(&mut bytes).refusal;
+        let wanted = match refusal {
+            0 => Ok(bytes),
+            number => Err(Refusal::try_from(number).expect("a refusal")),
+        };
+        let file = job.owned().to_pgm();
+        assert_eq!(file, wanted, "{job:?}");
+        if let Ok(file) = file {
+            assert_eq!(file.capacity(), file.len());
+            assert_eq!(Plate::from_pgm(&file), Ok(job.owned()));
+            let mut written = b"ahead".to_vec();
+            job.owned().write_pgm(&mut written).expect("a file");
+            assert_eq!(written, [b"ahead", &file[..]].concat());
+        }
     }
-    let many = Plate::new(300, 200, 1_000, (0..60_000).map(|p| p % 1_001).collect());
-    let mut file = Vec::new();
-    many.write_pgm(&mut file).expect("a file");
-    assert_eq!(Plate::from_pgm(&file), Ok(many));
+}
+
+/// An error of writing is handed on as it is.
+#[test]
+fn a_plate_file_without_room() {
+    let mut room = [0; 10];
+    let error = small().write_pgm(&mut room[..]).expect_err("no room");
+    assert_eq!(error.kind(), std::io::ErrorKind::WriteZero);
+    assert_eq!(&room, b"P5\n4 3\n255");
 }
 
 /// The text of a size list is what the second program prints, refusals included.
@@ -348,6 +369,7 @@ fn too_many_greys() {
     let clean = work.clean(&plate, Side::Light, Connectivity::Four, 1);
     assert_eq!(clean, refusal);
     assert_eq!(work.pixels(), livukoe::MAX_PIXELS);
+    assert_eq!(plate.to_pgm(), Err(Refusal::PlateLength));
 }
 
 #[test]

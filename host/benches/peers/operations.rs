@@ -79,8 +79,6 @@ impl<'a> Bench<'a> {
         let record = plate.record(connectivity).expect("a record");
         let mut work = work_space(pixels);
         work.fill(1);
-        let mut file = Vec::new();
-        plate.write_pgm(&mut file).expect("a plate file");
         Bench {
             plate,
             connectivity,
@@ -94,7 +92,7 @@ impl<'a> Bench<'a> {
                 work,
             },
             record: record.bytes().to_vec(),
-            file,
+            file: plate.to_pgm().expect("a plate file"),
         }
     }
 

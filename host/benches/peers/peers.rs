@@ -1,6 +1,6 @@
 //! Times of ITK and scikit-image, each in a process of its own, on one thread.
 
-use std::fs::{self, File};
+use std::fs;
 use std::path::{Path, PathBuf};
 use std::process::Command;
 
@@ -61,8 +61,8 @@ impl Peers {
     /// Measures every peer that takes a plate of that size.
     pub fn all(&self, kind: &'static str, plate: &Plate) -> Vec<PeerTiming> {
         let input = self.folder.join("plate.pgm");
-        let written = File::create(&input).and_then(|file| plate.write_pgm(file));
-        written.expect("a plate file");
+        let file = plate.to_pgm().expect("a plate file");
+        fs::write(&input, file).expect("a file on the disk");
         let opening = area_opening(plate);
         let measure = |(peer, words): &(&'static str, Vec<PathBuf>)| {
             let output = self.folder.join("answer.raw");

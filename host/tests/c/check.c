@@ -155,16 +155,23 @@ static void check_maxima_and_nodes(void)
     free(work);
 }
 
+/* The plate file of the small plate with a header and so many bytes a pixel. */
+static uint8_t *file_of(const char *header, size_t depth)
+{
+    size_t ahead = strlen(header), length = ahead + depth * PIXELS;
+    uint8_t *file = memset(filled(length), 0, length);
+    memcpy(file, header, ahead);
+    for (size_t p = 0; p < PIXELS; p++)
+        file[ahead + depth * p + depth - 1] = (uint8_t)SMALL[p];
+    return file;
+}
+
 /* Reads a plate file of so many bytes a pixel, whole and without its last byte. */
 static void check_file(const char *header, uint32_t greatest, size_t depth)
 {
-    size_t ahead = strlen(header), length = ahead + depth * PIXELS;
-    uint8_t *file = filled(length);
+    size_t length = strlen(header) + depth * PIXELS;
+    uint8_t *file = file_of(header, depth);
     uint16_t *out = filled(PIXELS * sizeof *out);
-    memcpy(file, header, ahead);
-    memset(file + ahead, 0, length - ahead);
-    for (size_t p = 0; p < PIXELS; p++)
-        file[ahead + depth * p + depth - 1] = (uint8_t)SMALL[p];
     struct livukoe_plate_head head = livukoe_read_pgm(file, length - 1, out, PIXELS);
     EXPECT(head.refusal == LIVUKOE_RASTER_SHORT && head.width == 0 && head.height == 0 && head.greatest == 0);
     head = livukoe_read_pgm(file, length, out, PIXELS - 1);
@@ -186,6 +193,51 @@ static void check_files(void)
     uint16_t out = 77;
     EXPECT(livukoe_read_pgm(above, sizeof above - 1, &out, 1).refusal == LIVUKOE_GREY && out == 77);
     EXPECT(livukoe_read_pgm(none, sizeof none, &out, 1).refusal == LIVUKOE_FILE_GREATEST && out == 77);
+}
+
+/* Writes the file with this header: into an output of its length, into one that is a byte shorter, and into one that is
+ * long enough for every plate of so many pixels. */
+static void check_written_file(const char *header, uint32_t greatest, size_t depth)
+{
+    const size_t length = strlen(header) + depth * PIXELS, most = LIVUKOE_PGM_BYTES(PIXELS);
+    uint8_t *file = file_of(header, depth), *out = filled(length), *longer = filled(most);
+    struct livukoe_file_length written =
+        livukoe_write_pgm(SMALL, PIXELS, WIDTH, HEIGHT, greatest, out, length - 1);
+    EXPECT(written.refusal == LIVUKOE_OUTPUT_SHORT && written.length == 0 && all(out, 77, length));
+    written = livukoe_write_pgm(SMALL, PIXELS, WIDTH, HEIGHT, greatest, out, length);
+    EXPECT(written.refusal == 0 && written.length == length && memcmp(out, file, length) == 0);
+    written = livukoe_write_pgm(SMALL, PIXELS, WIDTH, HEIGHT, greatest, longer, most);
+    EXPECT(written.refusal == 0 && written.length == length && memcmp(longer, file, length) == 0);
+    EXPECT(all(longer + length, 77, most - length));
+    free(file);
+    free(out);
+    free(longer);
+}
+
+/* Every refusal of writing a file, each with a condition that comes after it. Nothing is written. */
+static void check_written_files(void)
+{
+    check_written_file("P5\n4 3\n90\n", 90, 1);
+    check_written_file("P5\n4 3\n255\n", 255, 1);
+    check_written_file("P5\n4 3\n256\n", 256, 2);
+    check_written_file("P5\n4 3\n65535\n", 65535, 2);
+    uint8_t *out = filled(PIXELS);
+#define REFUSED(refused, ...)                                                                  \
+    do {                                                                                       \
+        struct livukoe_file_length answer = livukoe_write_pgm(SMALL, __VA_ARGS__, out, PIXELS); \
+        EXPECT(answer.refusal == refused && answer.length == 0);                               \
+    } while (0)
+    REFUSED(LIVUKOE_GRID, PIXELS, 0, HEIGHT, 0);
+    REFUSED(LIVUKOE_GRID, PIXELS, WIDTH, 32769, 0);
+    REFUSED(LIVUKOE_GRID, PIXELS, 32768, 513, 0);
+    REFUSED(LIVUKOE_GREATEST, PIXELS - 1, WIDTH, HEIGHT, 0);
+    REFUSED(LIVUKOE_GREATEST, PIXELS - 1, WIDTH, HEIGHT, 65536);
+    REFUSED(LIVUKOE_PLATE_LENGTH, PIXELS - 1, WIDTH, HEIGHT, 1);
+    REFUSED(LIVUKOE_GREY, PIXELS, WIDTH, HEIGHT, 89);
+    REFUSED(LIVUKOE_OUTPUT_SHORT, PIXELS, WIDTH, HEIGHT, 90);
+#undef REFUSED
+    EXPECT(all(out, 77, PIXELS));
+    free(out);
 }
 
 static void check_ink(void)
@@ -377,6 +429,22 @@ static void check_record_of_noise(const uint16_t *image, struct kind kind, uint3
     free(out);
 }
 
+/* Writes the file of that plate and reads it. */
+static void check_file_of_noise(const uint16_t *image, struct kind kind)
+{
+    const size_t most = LIVUKOE_PGM_BYTES(MANY);
+    uint16_t *out = filled(PLATE);
+    uint8_t *file = filled(most);
+    struct livukoe_file_length written =
+        livukoe_write_pgm(image, MANY, EXTENT, EXTENT, kind.greatest, file, most);
+    EXPECT(written.refusal == 0);
+    struct livukoe_plate_head head = livukoe_read_pgm(file, written.length, out, MANY);
+    EXPECT(head.refusal == 0 && head.width == EXTENT && head.height == EXTENT && head.greatest == kind.greatest);
+    EXPECT(memcmp(out, image, PLATE) == 0);
+    free(file);
+    free(out);
+}
+
 /* Every operation on that plate. */
 static void check_noise(struct kind kind)
 {
@@ -393,6 +461,7 @@ static void check_noise(struct kind kind)
             image, MANY, EXTENT, EXTENT, kind.greatest, kind.connectivity, out, MANY, work, 8 * MANY)
         == 0);
     check_record_of_noise(image, kind, work);
+    check_file_of_noise(image, kind);
     free(image);
     free(out);
     free(work);
@@ -405,6 +474,7 @@ int main(void)
     check_connectivities();
     check_maxima_and_nodes();
     check_files();
+    check_written_files();
     check_ink();
     check_record(RECORD, NEW);
     check_record(RECORD + FRONT, OLD);

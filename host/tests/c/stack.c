@@ -121,14 +121,12 @@ static uint32_t limit_of(int number, size_t pixels)
 /* How often a function did its work. */
 static int done;
 
-#define EACH_PLATE                                           \
-    for (const struct plate *plate = plates; plate < plates + PLATES; plate++) \
-        for (int c = 0; c < CONNECTIVITIES; c++)
-#define EACH_RECORD                                          \
-    for (const struct plate *plate = plates; plate < plates + PLATES; plate++) \
-        for (int c = 0; c < KINDS; c++)
+#define PLATE_ALONE for (const struct plate *plate = plates; plate < plates + PLATES; plate++)
+#define EACH_PLATE PLATE_ALONE for (int c = 0; c < CONNECTIVITIES; c++)
+#define EACH_RECORD PLATE_ALONE for (int c = 0; c < KINDS; c++)
 #define EACH_LIMIT for (int l = 0; l < LIMITS; l++)
-#define IMAGE plate->greys, plate->pixels, plate->width, plate->height, plate->greatest, CONNECTIVITY[c]
+#define GREYS plate->greys, plate->pixels, plate->width, plate->height
+#define IMAGE GREYS, plate->greatest, CONNECTIVITY[c]
 #define WORK work, LIVUKOE_WORK_NUMBERS(plate->pixels)
 #define LIMIT limit_of(l, plate->pixels)
 
@@ -162,6 +160,15 @@ static void read_pgm(void)
     for (const struct file *file = files; file < files + FILES; file++)
         for (size_t cut = 0; cut < 8; cut++)
             done += livukoe_read_pgm(file->bytes, file->length - cut, out, sizeof out / sizeof *out).refusal == 0;
+}
+
+/* With the greatest grey, and with smaller ones, which some greys are above. */
+static void write_pgm(void)
+{
+    const size_t most = LIVUKOE_PGM_BYTES(MANY);
+    PLATE_ALONE for (uint32_t greatest = plate->greatest; greatest > 0; greatest /= 2)
+        for (size_t places = 20; places <= most; places += most - 20)
+            done += livukoe_write_pgm(GREYS, greatest, bytes, places).refusal == 0;
 }
 
 static void write_record(void)
@@ -232,11 +239,11 @@ static const struct function {
 } FUNCTIONS[] = {
     {"livukoe_clean", clean},                   {"livukoe_regional_maxima", regional_maxima},
     {"livukoe_node_list", node_list},           {"livukoe_node_entries", node_entries},
-    {"livukoe_read_pgm", read_pgm},             {"livukoe_write_record", write_record},
-    {"livukoe_read_record", read_record},       {"livukoe_cut_record", cut_record},
-    {"livukoe_size_list", size_list},           {"livukoe_record_to_old", record_to_old},
-    {"livukoe_record_to_new", record_to_new},   {"livukoe_write_cut_list", write_cut_list},
-    {"livukoe_ink_percentage", ink_percentage},
+    {"livukoe_read_pgm", read_pgm},             {"livukoe_write_pgm", write_pgm},
+    {"livukoe_write_record", write_record},     {"livukoe_read_record", read_record},
+    {"livukoe_cut_record", cut_record},         {"livukoe_size_list", size_list},
+    {"livukoe_record_to_old", record_to_old},   {"livukoe_record_to_new", record_to_new},
+    {"livukoe_write_cut_list", write_cut_list}, {"livukoe_ink_percentage", ink_percentage},
 };
 
 static unsigned char *stack;

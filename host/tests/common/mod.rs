@@ -194,19 +194,27 @@ impl Plate {
         self.with(greys.map(|grey| self.greatest as u16 - grey).collect())
     }
 
-    /// The pixels as a plate file has them.
+    /// The pixels as a plate file has them, of a plate whose numbers are right.
     pub fn raster(&self) -> Vec<u8> {
-        let bytes = self.greys.iter().flat_map(|grey| grey.to_be_bytes());
-        match self.greatest {
-            0..256 => bytes.skip(1).step_by(2).collect(),
-            _ => bytes.collect(),
-        }
+        let depth = if self.greatest < 256 { 1 } else { 2 };
+        let mut file = self.file();
+        file.split_off(file.len() - depth * self.pixels())
     }
 
-    /// The plate file of this plate.
+    /// The plate file of a plate whose numbers are right.
     pub fn file(&self) -> Vec<u8> {
+        self.owned().to_pgm().expect("a file")
+    }
+
+    /// The bytes that the second program would write, also where it refuses to.
+    pub fn file_by_reference(&self) -> Vec<u8> {
         let (width, height, greatest, _) = self.numbers();
-        let header = format!("P5\n{width} {height}\n{greatest}\n");
-        [header.as_bytes(), &self.raster()].concat()
+        reference::written::file_of(&self.greys, width, height, greatest)
+    }
+
+    /// The second program's writing of the plate file.
+    pub fn write_by_reference(&self, out: &mut [u8]) -> reference::FileLength {
+        let (width, height, greatest, _) = self.numbers();
+        reference::write_pgm(&self.greys, width, height, greatest, out)
     }
 }

@@ -6,7 +6,7 @@
 mod png;
 
 use std::error::Error;
-use std::fs::{self, File};
+use std::fs;
 use std::process::ExitCode;
 
 use livukoe::{pictures, Plate, BYTE_GREATEST};
@@ -33,7 +33,7 @@ fn main() -> ExitCode {
 
 fn relief(output: &str) -> Result<(), Box<dyn Error>> {
     let plate = pictures::specked_relief(420, 300);
-    plate.write_pgm(File::create(output)?)?;
+    fs::write(output, plate.to_pgm()?)?;
     Ok(())
 }
 

@@ -42,19 +42,23 @@ fn from_plate(
     doing: &str,
     operation: fn(&Plate, &Command) -> Result<Plate, Refusal>,
 ) -> Result<(), Failure> {
-    let answer = on_plate(command, doing, |plate| operation(plate, command))?;
-    write_plate(command, &answer)
+    let file = on_plate(command, doing, |plate| operation(plate, command)?.to_pgm())?;
+    write_bytes(command, &file)
 }
 
 fn plate(command: &Command) -> Result<(), Failure> {
-    let plate = on_record(command, "reading a record", Record::plate)?;
-    write_plate(command, &plate)
+    let file = on_record(command, "reading a record", |record| {
+        record.plate()?.to_pgm()
+    })?;
+    write_bytes(command, &file)
 }
 
 fn cut(command: &Command) -> Result<(), Failure> {
     let limit = command.limit.number;
-    let cut = on_record(command, "cutting a record", |record| record.cut(limit))?;
-    write_plate(command, &cut)
+    let file = on_record(command, "cutting a record", |record| {
+        record.cut(limit)?.to_pgm()
+    })?;
+    write_bytes(command, &file)
 }
 
 fn convert(command: &Command) -> Result<(), Failure> {
@@ -62,14 +66,14 @@ fn convert(command: &Command) -> Result<(), Failure> {
     let converted = on_record(command, "converting a record", |record| {
         record.to_form(form)
     })?;
-    write_record(command, &converted)
+    write_bytes(command, converted.bytes())
 }
 
 fn record(command: &Command) -> Result<(), Failure> {
     let record = on_plate(command, "writing a record", |plate| {
         plate.record(command.connectivity)
     })?;
-    write_record(command, &record)
+    write_bytes(command, record.bytes())
 }
 
 fn nodes(command: &Command) -> Result<(), Failure> {
@@ -126,10 +130,7 @@ fn on_record<T>(
     })
 }
 
-fn write_plate(command: &Command, plate: &Plate) -> Result<(), Failure> {
-    output::write(command, &|out| plate.write_pgm(out))
-}
-
-fn write_record(command: &Command, record: &Record) -> Result<(), Failure> {
-    output::write(command, &|out| out.write_all(record.bytes()))
+/// Writes a plate file or a record.
+fn write_bytes(command: &Command, bytes: &[u8]) -> Result<(), Failure> {
+    output::write(command, &|out| out.write_all(bytes))
 }

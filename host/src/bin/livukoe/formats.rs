@@ -3,7 +3,7 @@
 /// First bytes, what begins with them, and what makes a plate file of it. The first that fits counts.
 const FORMATS: [(&[u8], &str, &str); 17] = [
     (b"P1", "a plain PBM", "pgmtopgm"),
-    (b"P2", "a plain PGM", "pnmtopnm"),
+    (b"P2", "a plain PGM", "pgmtopgm"),
     (b"P3", "a plain PPM", "ppmtopgm"),
     (b"P4", "a raw PBM", "pgmtopgm"),
     (b"P6", "a raw PPM", "ppmtopgm"),
