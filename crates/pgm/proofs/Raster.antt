@@ -1,11 +1,12 @@
 -- The greys of a raster: how many there are, and where the bytes of each stand.
-use mathlib.Core.Path.{_≡_, refl, sym, subst, ap, _∙_}
+use mathlib.Core.Path.{_≡_, refl, sym, ap, _∙_}
 use mathlib.Core.Bool.{Bool, true, false}
 use mathlib.Core.List.{List, [], _∷_}
 use mathlib.Core.Logic.{_⊎_, inl, inr}
 use Prim.Native.Nat.{ℕ, zero, suc, _+_, _*_, _/_, _≤_, _<_}
 use native.Mathlib.Omega.{arith}
-use lib.Dec.{T, leb, leb→le}
+use borrow.Author.Tests.{leb-true}
+use lib.Dec.{leb}
 use lib.ListN.{length}
 use Rattle.meaning.specs.Plate.{byteGreatest, grey}
 use Rattle.pgm.specs.File.{pairs, pixelBytes, greysOf}
@@ -43,7 +44,7 @@ pub one-low : (M : ℕ) → pixelBytes M ≡ 1 → M ≤ byteGreatest
 one-low M e = go (leb M byteGreatest) refl
   where
     go : (b : Bool) → leb M byteGreatest ≡ b → M ≤ byteGreatest
-    go true t = leb→le M byteGreatest (subst T (sym t) tt)
+    go true t = leb-true M byteGreatest t
     go false t = absurd (let two : 2 ≡ 1 = rw t at e in omega (arith, two))
 
 pub bytes-some : (M : ℕ) → 0 < pixelBytes M

@@ -58,56 +58,61 @@ line-stops s = front-miss isDigit 10 s refl
 
 -- ---- the file, of three numerals and a raster
 
--- what follows the letters
-abbrev lines : List ℕ → List ℕ → List ℕ → List ℕ → List ℕ
-lines a b c raster = a ++ 32 ∷ (b ++ 10 ∷ (c ++ 10 ∷ raster))
+-- from the greatest grey on, from the height on, from the width on, all
+abbrev fromGreatest : List ℕ → List ℕ → List ℕ
+fromGreatest c raster = c ++ 10 ∷ raster
+
+abbrev fromHeight : List ℕ → List ℕ → List ℕ → List ℕ
+fromHeight b c raster = b ++ 10 ∷ fromGreatest c raster
+
+abbrev fromWidth : List ℕ → List ℕ → List ℕ → List ℕ → List ℕ
+fromWidth a b c raster = a ++ 32 ∷ fromHeight b c raster
 
 abbrev pub fileOf : List ℕ → List ℕ → List ℕ → List ℕ → List ℕ
-fileOf a b c raster = 80 ∷ 53 ∷ 10 ∷ lines a b c raster
+fileOf a b c raster = 80 ∷ 53 ∷ 10 ∷ fromWidth a b c raster
 
 module _ (a b c raster : List ℕ) (na : numeral a ≡ true) (nb : numeral b ≡ true) (nc : numeral c ≡ true) where
-  opening-there : opening (fileOf a b c raster) ≡ gapThen (lines a b c raster)
+  first-gap : opening (fileOf a b c raster) ≡ gapThen (fromWidth a b c raster)
   unfolding opening gap oneBlank blank
-  opening-there = mix-numeral a (32 ∷ (b ++ 10 ∷ (c ++ 10 ∷ raster))) na
+  first-gap = mix-numeral a (32 ∷ fromHeight b c raster) na
 
-  second-gap : gap (32 ∷ (b ++ 10 ∷ (c ++ 10 ∷ raster))) ≡ gapThen (b ++ 10 ∷ (c ++ 10 ∷ raster))
+  second-gap : gap (32 ∷ fromHeight b c raster) ≡ gapThen (fromHeight b c raster)
   unfolding gap oneBlank blank
-  second-gap = mix-numeral b (10 ∷ (c ++ 10 ∷ raster)) nb
+  second-gap = mix-numeral b (10 ∷ fromGreatest c raster) nb
 
-  third-gap : gap (10 ∷ (c ++ 10 ∷ raster)) ≡ gapThen (c ++ 10 ∷ raster)
+  third-gap : gap (10 ∷ fromGreatest c raster) ≡ gapThen (fromGreatest c raster)
   unfolding gap oneBlank blank
   third-gap = mix-numeral c (10 ∷ raster) nc
 
-  first-number : length a ≤ 5 → number (lines a b c raster) ≡ numberThen (digitsValue 0 a) (32 ∷ (b ++ 10 ∷ (c ++ 10 ∷ raster)))
-  first-number l = number-numeral a (32 ∷ (b ++ 10 ∷ (c ++ 10 ∷ raster))) na (space-stops (b ++ 10 ∷ (c ++ 10 ∷ raster))) l
+  first-number : length a ≤ 5 → number (fromWidth a b c raster) ≡ numberThen (digitsValue 0 a) (32 ∷ fromHeight b c raster)
+  first-number l = number-numeral a (32 ∷ fromHeight b c raster) na (space-stops (fromHeight b c raster)) l
 
-  second-number : length b ≤ 5 → number (b ++ 10 ∷ (c ++ 10 ∷ raster)) ≡ numberThen (digitsValue 0 b) (10 ∷ (c ++ 10 ∷ raster))
-  second-number l = number-numeral b (10 ∷ (c ++ 10 ∷ raster)) nb (line-stops (c ++ 10 ∷ raster)) l
+  second-number : length b ≤ 5 → number (fromHeight b c raster) ≡ numberThen (digitsValue 0 b) (10 ∷ fromGreatest c raster)
+  second-number l = number-numeral b (10 ∷ fromGreatest c raster) nb (line-stops (fromGreatest c raster)) l
 
-  third-number : length c ≤ 5 → number (c ++ 10 ∷ raster) ≡ numberThen (digitsValue 0 c) (10 ∷ raster)
+  third-number : length c ≤ 5 → number (fromGreatest c raster) ≡ numberThen (digitsValue 0 c) (10 ∷ raster)
   third-number l = number-numeral c (10 ∷ raster) nc (line-stops raster) l
 
   -- with at most five digits each the header is sound
   pub header-there : length a ≤ 5 → length b ≤ 5 → length c ≤ 5
       → header (fileOf a b c raster) ≡ sound (digitsValue 0 a) (digitsValue 0 b) (digitsValue 0 c) raster
   unfolding header
-  header-there la lb lc =
-      rw (opening-there, first-number la, second-gap, second-number lb, third-gap, third-number lc)
+  header-there la lb lc = rw (first-gap, first-number la, second-gap, second-number lb, third-gap, third-number lc)
 
   -- with more it is malformed
   over-first : 5 < length a → header (fileOf a b c raster) ≡ faulty 11
   unfolding header
-  over-first l = rw (opening-there, number-over a (32 ∷ (b ++ 10 ∷ (c ++ 10 ∷ raster))) na (space-stops (b ++ 10 ∷ (c ++ 10 ∷ raster))) l)
+  over-first l = rw (first-gap, number-over a (32 ∷ fromHeight b c raster) na (space-stops (fromHeight b c raster)) l)
 
   over-second : length a ≤ 5 → 5 < length b → header (fileOf a b c raster) ≡ faulty 11
   unfolding header
   over-second la l =
-      rw (opening-there, first-number la, second-gap, number-over b (10 ∷ (c ++ 10 ∷ raster)) nb (line-stops (c ++ 10 ∷ raster)) l)
+      rw (first-gap, first-number la, second-gap, number-over b (10 ∷ fromGreatest c raster) nb (line-stops (fromGreatest c raster)) l)
 
   over-third : length a ≤ 5 → length b ≤ 5 → 5 < length c → header (fileOf a b c raster) ≡ faulty 11
   unfolding header
   over-third la lb l =
-      rw (opening-there, first-number la, second-gap, second-number lb, third-gap, number-over c (10 ∷ raster) nc (line-stops raster) l)
+      rw (first-gap, first-number la, second-gap, second-number lb, third-gap, number-over c (10 ∷ raster) nc (line-stops raster) l)
 
   -- so a file that is read has no more
   module _ (room : ℕ) (z : readPgm (fileOf a b c raster) room .refusal ≡ 0) where

@@ -49,8 +49,8 @@ module _ {k w h M : ℕ} {f : List ℕ} (plate : Plate k w h M f) where
   abbrev raster : List ℕ
   raster = rasterOf M f
 
-  raster-bytes : length raster ≡ pixelBytes M * (w * h)
-  raster-bytes = raster-length M f ∙ ap (λ (n : ℕ). pixelBytes M * n) (plate .long)
+  raster-size : length raster ≡ pixelBytes M * (w * h)
+  raster-size = raster-length M f ∙ ap (λ (n : ℕ). pixelBytes M * n) (plate .long)
 
   pub file-short : length (pgmOf w h M f) ≤ pgmBytes (w * h)
   file-short =
@@ -66,7 +66,7 @@ module _ {k w h M : ℕ} {f : List ℕ} (plate : Plate k w h M f) where
         few-width plate,
         few-height plate,
         few-greatest plate,
-        raster-bytes,
+        raster-size,
         bytes-most M (w * h),
       )
 
@@ -77,8 +77,8 @@ module _ {k w h M : ℕ} {f : List ℕ} (plate : Plate k w h M f) where
       let answer = sym (write-done w h M f out plate l refl refl .0) in
       (answer, rw answer (take-at (pgmOf w h M f) (drop (length (pgmOf w h M f)) out) (length (pgmOf w h M f)) refl))
 
-  header-is : header (pgmOf w h M f) ≡ sound w h M raster
-  header-is =
+  header-parsed : header (pgmOf w h M f) ≡ sound w h M raster
+  header-parsed =
       rw (laid-out w h M f)
       (header-there (decimal w) (decimal h) (decimal M) raster (decimal-numeral w) (decimal-numeral h) (decimal-numeral M)
       (few-width plate) (few-height plate) (few-greatest plate) ∙ rw (spelled w .value, spelled h .value, spelled M .value))
@@ -90,7 +90,7 @@ module _ {k w h M : ℕ} {f : List ℕ} (plate : Plate k w h M f) where
       let same = raster-back M f in
       let readable : Readable w h M (greysOf M raster) room =
       rw same (record { sizes = plate .sizes; range = plate .range; long = plate .long; greys = plate .greys; fits = fits }) in
-      record { answer = rw (header-is, raster-read w h M raster room raster-bytes readable); plate = rw header-is same }
+      record { answer = rw (header-parsed, raster-read w h M raster room raster-size readable); plate = rw header-parsed same }
 
   pub file-bytes : Bytes (pgmOf w h M f)
   file-bytes =

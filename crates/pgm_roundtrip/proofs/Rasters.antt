@@ -5,7 +5,7 @@ use mathlib.Core.Logic.{inl, inr}
 use Prim.Native.Nat.{ℕ, zero, suc, _+_, _*_, _/_, _%_, _≤_, _<_}
 use native.Mathlib.Omega.{arith}
 use lib.ListN.{getD, length}
-use Rattle.meaning.specs.Plate.{grey}
+use Rattle.meaning.specs.Plate.{grey, maxGreatest}
 use Rattle.pgm_header.proofs.Digits.{digit-range}
 use Rattle.pgm.specs.File.{greysOf, pairs, pixelBytes}
 use Rattle.pgm.proofs.Raster.{one-byte, one-low, one-or-two, two-bytes}
@@ -60,14 +60,14 @@ raster-back M f = elim (one-or-two M) [
 ]
 
 -- it is made of bytes
-pairs-bytes : (f : List ℕ) → ((p : ℕ) → p < length f → grey f p ≤ 65535) → Bytes (bytePairs f)
+pairs-bytes : (f : List ℕ) → ((p : ℕ) → p < length f → grey f p ≤ maxGreatest) → Bytes (bytePairs f)
 unfolding bytePairs
 pairs-bytes [] low = bytes-none
 pairs-bytes (g ∷ f) low =
     let h = low 0 (omega arith) in
     bytes-cons (omega arith) (bytes-cons (omega arith) (pairs-bytes f (λ p l. low (suc p) (omega arith))))
 
-pub raster-made : (M : ℕ) (f : List ℕ) → M ≤ 65535 → ((p : ℕ) → p < length f → grey f p ≤ M) → Bytes (rasterOf M f)
+pub raster-made : (M : ℕ) (f : List ℕ) → M ≤ maxGreatest → ((p : ℕ) → p < length f → grey f p ≤ M) → Bytes (rasterOf M f)
 raster-made M f most low = elim (one-or-two M) [
   | inl e ↦ rw (raster-one M f e) (record { small = λ p l. omega (arith, low p l, one-low M e) })
   | inr e ↦ rw (raster-two M f e) (pairs-bytes f (λ p l. omega (arith, low p l)))

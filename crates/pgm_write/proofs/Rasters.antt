@@ -15,22 +15,22 @@ use Rattle.pgm_write.specs.Writing.{bytePairs, rasterOf}
 
 -- ---- two bytes a pixel
 
-pub pairs-length : (f : List ℕ) → length (bytePairs f) ≡ 2 * length f
+pub byte-pairs-length : (f : List ℕ) → length (bytePairs f) ≡ 2 * length f
 unfolding bytePairs
-pairs-length [] = refl
-pairs-length (g ∷ f) = omega (arith, pairs-length f)
+byte-pairs-length [] = refl
+byte-pairs-length (g ∷ f) = omega (arith, byte-pairs-length f)
 
-pub pairs-high : (f : List ℕ) (p : ℕ) → p < length f → grey (bytePairs f) (2 * p) ≡ grey f p / 256
+pub byte-pairs-high : (f : List ℕ) (p : ℕ) → p < length f → grey (bytePairs f) (2 * p) ≡ grey f p / 256
 unfolding bytePairs
-pairs-high [] p l = absurd (omega arith)
-pairs-high (g ∷ f) zero l = refl
-pairs-high (g ∷ f) (suc p) l = let e : 2 * suc p ≡ suc (suc (2 * p)) = omega arith in rw e (pairs-high f p (omega arith))
+byte-pairs-high [] p l = absurd (omega arith)
+byte-pairs-high (g ∷ f) zero l = refl
+byte-pairs-high (g ∷ f) (suc p) l = let e : 2 * suc p ≡ suc (suc (2 * p)) = omega arith in rw e (byte-pairs-high f p (omega arith))
 
-pub pairs-low : (f : List ℕ) (p : ℕ) → p < length f → grey (bytePairs f) (2 * p + 1) ≡ grey f p % 256
+pub byte-pairs-low : (f : List ℕ) (p : ℕ) → p < length f → grey (bytePairs f) (2 * p + 1) ≡ grey f p % 256
 unfolding bytePairs
-pairs-low [] p l = absurd (omega arith)
-pairs-low (g ∷ f) zero l = refl
-pairs-low (g ∷ f) (suc p) l = let e : 2 * suc p + 1 ≡ suc (suc (2 * p + 1)) = omega arith in rw e (pairs-low f p (omega arith))
+byte-pairs-low [] p l = absurd (omega arith)
+byte-pairs-low (g ∷ f) zero l = refl
+byte-pairs-low (g ∷ f) (suc p) l = let e : 2 * suc p + 1 ≡ suc (suc (2 * p + 1)) = omega arith in rw e (byte-pairs-low f p (omega arith))
 
 -- ---- one byte a pixel, or two
 
@@ -46,7 +46,7 @@ module _ (M : ℕ) (f : List ℕ) where
   pub raster-length : length (rasterOf M f) ≡ pixelBytes M * length f
   raster-length = elim (one-or-two M) [
     | inl e ↦ rw (raster-one e, e) (omega arith)
-    | inr e ↦ rw (raster-two e, e) (pairs-length f)
+    | inr e ↦ rw (raster-two e, e) (byte-pairs-length f)
   ]
 
   -- b was found to be how many bytes a pixel has

@@ -6,7 +6,7 @@ use denote.Ref.{now}
 use lib.ListN.{length, length-set}
 use Rattle.text_lines.proofs.Pieces.{Putting, putting-done, putting-more}
 use Rattle.pgm_write.specs.Writing.{bytePairs}
-use Rattle.pgm_write.proofs.Rasters.{pairs-high, pairs-length, pairs-low}
+use Rattle.pgm_write.proofs.Rasters.{byte-pairs-high, byte-pairs-length, byte-pairs-low}
 use Rattle.pgm_write.proofs.put_pairs.Statement.{statement}
 use Rattle.pgm_write.proofs.put_pairs.Tie as tie
 
@@ -17,11 +17,11 @@ abbrev μ-loop : tie.MeasureT-loop
 μ-loop text₀ at image n p₀ text p = n - p
 
 loop-holds : tie.Need-loop-holds Inv-loop μ-loop
-loop-holds c = record { within = omega arith; room = omega (arith, c .pre, pairs-length (now (c .args .image))); long = refl; stored = refl }
+loop-holds c = record { within = omega arith; room = omega (arith, c .pre, byte-pairs-length (now (c .args .image))); long = refl; stored = refl }
 
 -- the two bytes of pixel p are among those of all, and have their places
 inside : (c : tie.In-loop Inv-loop μ-loop) → 2 * c .before .loop .p + 1 < length (bytePairs (now (c .before .before .args .image)))
-inside c = omega (arith, c .loop-test .taken, pairs-length (now (c .before .before .args .image)))
+inside c = omega (arith, c .loop-test .taken, byte-pairs-length (now (c .before .before .args .image)))
 
 placed : (c : tie.In-loop Inv-loop μ-loop) → c .before .before .args .at + 2 * c .before .loop .p + 1 < length (c .before .loop .text)
 placed c = let i = c .before .loop .inv in omega (arith, i .room, i .long, inside c)
@@ -69,7 +69,7 @@ loop-again c =
     let both = putting-more high (inside (c .before)) in
     let next : 2 * p + 1 + 1 ≡ 2 * (p + 1) = omega arith in
     let place : d .before .args .at + (2 * p + 1) ≡ d .before .args .at + 2 * p + 1 = omega arith in
-    rw (next, place, pairs-high image p l, pairs-low image p l) at both
+    rw (next, place, byte-pairs-high image p l, byte-pairs-low image p l) at both
 
 mul-result : tie.Need-mul-result Inv-loop μ-loop
 mul-result c = let i = c .before .loop .inv in omega (arith, i .room, i .within)
@@ -81,7 +81,7 @@ same-length : tie.Need-same-length Inv-loop μ-loop
 same-length c = c .before .loop .inv .long
 
 returns : tie.Need-returns Inv-loop μ-loop
-returns c = putting-done (c .before .loop .inv) (omega (arith, c .loop-test .left, pairs-length (now (c .before .before .args .image))))
+returns c = putting-done (c .before .loop .inv) (omega (arith, c .loop-test .left, byte-pairs-length (now (c .before .before .args .image))))
 
 pub put-pairs-spec : {M : Type 1} → statement M
 put-pairs-spec =

@@ -4,7 +4,7 @@ use native.Mathlib.Omega.{arith}
 use borrow.Author.Needs.{needs}
 use denote.Ref.{now}
 use lib.ListN.{length}
-use Rattle.pgm_write.proofs.Rasters.{bytes-low, pairs-length, raster-bytes, raster-pairs}
+use Rattle.pgm_write.proofs.Rasters.{bytes-low, byte-pairs-length, raster-bytes, raster-pairs}
 use Rattle.pgm_write.proofs.put_raster.Statement.{statement}
 use Rattle.pgm_write.proofs.put_raster.Tie as tie
 
@@ -36,7 +36,7 @@ put-pairs-requires c κs =
     let b = c .before .before in
     let image = now (s .args .image) in
     let e = raster-pairs (s .args .greatest) image (b .pixel-bytes .ensures) (c .before .if1 .left) in
-    omega (arith, s .pre .0, ap length e, pairs-length image)
+    omega (arith, s .pre .0, ap length e, byte-pairs-length image)
 
 same-length-2 : tie.Need-same-length-2
 same-length-2 c = search needs

@@ -56,15 +56,15 @@ size-is c =
     ∙ sym (file-length (a .width) (a .height) (a .greatest) (image c))
 
 -- the raster has its length
-raster-long : (c : tie.After-pixel-bytes) → c .pixel-bytes .result * length (image c) ≡ length (rasterOf (start c .args .greatest) (image c))
-raster-long c =
+raster-size : (c : tie.After-pixel-bytes) → c .pixel-bytes .result * length (image c) ≡ length (rasterOf (start c .args .greatest) (image c))
+raster-size c =
     ap (λ (n : ℕ). n * length (image c)) (c .pixel-bytes .ensures) ∙ sym (raster-length (start c .args .greatest) (image c))
 
 -- so nothing overflows
 raster-few : (c : tie.After-pixel-bytes) → c .pixel-bytes .result * length (image c) ≤ 33554432
 raster-few c =
     let M = start c .args .greatest in
-    omega (arith, raster-long c, raster-length M (image c), bytes-most M (length (image c)), taken-few (plate c))
+    omega (arith, raster-size c, raster-length M (image c), bytes-most M (length (image c)), taken-few (plate c))
 
 -- ---- the needs
 
@@ -122,7 +122,7 @@ put-raster-requires c κs =
     let w = c .before .before .before in
     let d = w .before .before .before .before in
     let room : length (now (start d .args .out)) ≡ length (w .put-word .last .0) = sym (put-length (w .put-word .ensures)) in (
-      omega (arith, raster-long d, w .before .before .before .if2 .left, room),
+      omega (arith, raster-size d, w .before .before .before .if2 .left, room),
       above-none (start d .args .greatest) (image d) (plate d .greys),
     )
 
