@@ -10,6 +10,7 @@ mod joint;
 mod netpbm;
 mod new_form;
 mod plates;
+mod seeded;
 mod sides;
 mod touch;
 mod trim_edge;
@@ -39,6 +40,7 @@ pub fn cases_text() -> String {
     new_form::cases(&mut cases);
     conversion::cases(&mut cases);
     written::cases(&mut cases);
+    seeded::cases(&mut cases);
     let mut lines: Vec<String> = cases.iter().map(Case::line).collect();
     let mut seen = BTreeSet::new();
     lines.retain(|line| seen.insert(line.clone()));

@@ -19,6 +19,7 @@
 //! - `old`, `new`: a record, `out`, `work`; it is converted to that form
 //! - `file`: a file, `out`
 //! - `pgm`: a plate without `connectivity`, `out`; its file is written
+//! - `seeded`: `seed`, `width`, `height`, `out`; the plate of the seed
 //! - `header`: a file, `at` (where the header begins)
 //! - `text`: a file; what sizelist prints
 //! - `ink`: `greatest`, `greys`; refusal and percentage for each grey
@@ -49,6 +50,7 @@ fn answer(case: &Case) -> String {
         "new" => converted(case, to_new_form),
         "file" => file(case),
         "pgm" => pgm(case),
+        "seeded" => seeded(case),
         "header" => header(case),
         "text" => text(case),
         "ink" => inks(case),
@@ -225,6 +227,14 @@ fn pgm(case: &Case) -> String {
     let mut out = case.lent("out", BYTE);
     let written = write_pgm(&case.greys(), w, h, m, &mut out);
     format!(" {} {}", written.refusal, written.length) + &barred(&out)
+}
+
+/// The plate of a seed.
+fn seeded(case: &Case) -> String {
+    let [w, h, _, _] = shape(case);
+    let mut out = case.lent("out", GREY);
+    let done = seeded_plate(case.number("seed"), w, h, &mut out);
+    format!(" {}", done.refusal) + &barred(&out)
 }
 
 /// Reading the header that begins at a place.

@@ -22,7 +22,7 @@ pub fn cases(cases: &mut Vec<Case>) {
 }
 
 /// The plate written into an output of so many places.
-fn written(plate: &Plate, places: usize) -> Case<'static> {
+pub fn written(plate: &Plate, places: usize) -> Case<'static> {
     plate.shaped(Case::new("pgm")).with("out", places)
 }
 
@@ -98,15 +98,24 @@ fn halves(width: u32, height: u32, greatest: u32) -> Plate {
     Plate::new(width, height, |p| grey(p) as u16).up_to(greatest)
 }
 
-/// Sizes beyond the grid, with the small plate's greys and with as many as the product
-/// wrapped to 32 bits, up to 13; then sizes within the grid.
-fn unfit_sizes(cases: &mut Vec<Case>) {
+/// Sizes beyond the grid; the products of some are 12 at most when wrapped to 32 bits.
+pub fn beyond_the_grid() -> impl Iterator<Item = (u32, u32)> {
     let most = u32::MAX;
     let numbers = [(0, 3), (4, 0), (0, 0), (0, most), (32_769, 1), (1, 32_769)];
     let products = [(32_768, 513), (513, 32_768), (4_097, 4_096)];
     let of_16_bits = [(65_540, 3), (4, 65_539), (1, 65_536)];
     let of_32_bits = [(65_536, 65_536), (most, most), (2_147_483_649, 2)];
     let of_32_bits_to_12 = [(2_147_483_654, 2), (6, 2_147_483_650)];
+    let wrapped = of_16_bits
+        .into_iter()
+        .chain(of_32_bits)
+        .chain(of_32_bits_to_12);
+    numbers.into_iter().chain(products).chain(wrapped)
+}
+
+/// Sizes beyond the grid, with the small plate's greys and with as many as the product
+/// wrapped to 32 bits, up to 13; then sizes within the grid.
+fn unfit_sizes(cases: &mut Vec<Case>) {
     let within = [
         (12, 1),
         (1, 12),
@@ -115,12 +124,7 @@ fn unfit_sizes(cases: &mut Vec<Case>) {
         (32_768, 512),
         (4_096, 4_096),
     ];
-    let wrapped = of_16_bits
-        .into_iter()
-        .chain(of_32_bits)
-        .chain(of_32_bits_to_12);
-    let sizes = numbers.into_iter().chain(products).chain(wrapped);
-    for (width, height) in sizes.chain(within) {
+    for (width, height) in beyond_the_grid().chain(within) {
         let product = width.wrapping_mul(height).min(13);
         for length in [12, product as usize] {
             let case = small_of(length, 255, 40);

@@ -17,8 +17,8 @@ fn answers(text: &str, name: &str) -> BTreeSet<u32> {
 }
 
 /// The numbers that each operation answers: six on plates, three on records that both
-/// forms share, then two conversions, two on files, writing a file.
-const NUMBERS: [(&str, &[u32]); 14] = [
+/// forms share, then two conversions, two on files, writing a file, a plate from a seed.
+const NUMBERS: [(&str, &[u32]); 15] = [
     ("clean", &[0, 1, 2, 3, 4, 5, 6, 26, 28, 29]),
     ("maxima", &[0, 1, 2, 3, 5, 6, 28, 29]),
     ("nodes", &[0, 1, 2, 3, 5, 6, 28, 29]),
@@ -33,6 +33,7 @@ const NUMBERS: [(&str, &[u32]); 14] = [
     ("file", &[0, 2, 5, 10, 11, 12, 14, 15, 28]),
     ("header", &[0, 10, 11]),
     ("pgm", &[0, 2, 3, 5, 28, 29]),
+    ("seeded", &[0, 2, 5]),
 ];
 
 #[test]
@@ -216,6 +217,41 @@ fn a_plate_on_the_light_side_and_its_negative_on_the_dark_side() {
         &format!("clean side 2 {fields} greys 255*2 246*2 255 246*2 255 246 255*2 246"),
         "clean 0 | 255*2 246*2 255 246*2 255 246 255*2 246 43690 | 0*96 7*2",
     );
+}
+
+#[test]
+fn the_plate_of_seed_0_and_its_file() {
+    for size in ["width 4 height 1", "width 2 height 2", "width 1 height 4"] {
+        let case = format!("seeded seed 0 {size} out 4");
+        holds(&case, "seeded 0 | 60 71 209 170");
+    }
+    let greys = "60 71 209 170";
+    let file = format!("80 53 10 50 32 50 10 50 53*2 10 {greys}");
+    holds(
+        &format!("pgm width 2 height 2 greatest 255 out 15 greys {greys}"),
+        &format!("pgm 0 15 | {file}"),
+    );
+    holds(
+        &format!("file out 4 bytes {file}"),
+        &format!("file 0 2 2 255 | {greys}"),
+    );
+}
+
+#[test]
+fn plates_from_a_seed_that_are_refused() {
+    for size in ["width 0 height 3", "width 65536 height 65536"] {
+        let case = format!("seeded seed 5 {size} out 12");
+        holds(&case, "seeded 2 | 43690*12");
+        let case = format!("seeded seed 5 {size} out 0");
+        holds(&case, "seeded 2 |");
+    }
+    for (case, places) in [
+        ("seeded seed 4294967295 width 4 height 3 out", 11),
+        ("seeded seed 6 width 4096 height 4096 out", 3),
+    ] {
+        let line = format!("seeded 5 | 43690*{places}");
+        holds(&format!("{case} {places}"), &line);
+    }
 }
 
 #[test]

@@ -35,7 +35,7 @@ fn plate_of(file: &[u8], places: usize) -> Result<(u32, u32, u32, Vec<u16>), u32
 }
 
 /// The plate's file has the form and reads as the plate; a byte less or more does neither.
-fn check_reading_back(plate: &[u16], width: u32, height: u32, greatest: u32) {
+pub fn check_reading_back(plate: &[u16], width: u32, height: u32, greatest: u32) {
     let mut file = plate_file(plate, width, height, greatest);
     assert!(has_written_form(&file));
     let read = plate_of(&file, plate.len());
