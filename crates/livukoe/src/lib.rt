@@ -13,6 +13,7 @@ ghost use Rattle.plate_entries.specs.Entries.{EntriesListed};
 ghost use Rattle.record_write_cut_list.specs.WriteCutList.{WrittenCutListed};
 ghost use Rattle.pgm.specs.File.{readPgm, plateOf};
 ghost use Rattle.pgm_write.specs.Writing.{pgmOf, writePgm};
+ghost use Rattle.seeded_plates.specs.Sequence.{seededPlate, seededRefusal};
 ghost use Rattle.ink.specs.Percentage.{Percentage};
 use ink::Ink;
 use pgm::PgmRead;
@@ -144,6 +145,16 @@ pub extern "C" fn livukoe_write_pgm(
         (pgmOf width height greatest (now (image .entry))) (now (out .entry)) ⌝ }
 {
     pgm_write::write_pgm(image, width, height, greatest, out)
+}
+
+// Writes the test plate of a seed into the output.
+#[no_mangle]
+pub extern "C" fn livukoe_seeded_plate(seed: u32, width: u32, height: u32, out: &mut [u16]) -> u32
+    ensures { λ r. ⌜ r ≡ seededRefusal width height (length (now (out .entry))) ⌝ }
+    ensures { λ _. ⌜ now (out .exit) ≡ outAfter (seededRefusal width height (length (now (out .entry))))
+        (seededPlate seed width height) (now (out .entry)) ⌝ }
+{
+    seeded_plates::seeded_plate(seed, width, height, out)
 }
 
 // The ink percentage of a grey.

@@ -1,4 +1,4 @@
-// The cases with an output of greys and a work space.
+// The cases with an output of greys; all but `seeded` have a work space.
 use test_case_lines::cases::field;
 use test_case_lines::cases::is_named;
 use test_case_lines::cases::places;
@@ -57,7 +57,7 @@ fn cut(line: &[u8], bytes: &[u8], out: &mut [u16], work: &mut [u32]) {
     print_head(record::cut_record(bytes, limit, out, work));
 }
 
-// Runs the case if it is one of these, and gives whether it is.
+// Runs the case if it is one of those with a work space, and gives whether it is.
 fn choose(line: &[u8], bytes: &[u8], greys: &[u16], out: &mut [u16], work: &mut [u32]) -> bool {
     if is_named(line, b"clean") {
         clean(line, greys, out, work);
@@ -78,7 +78,20 @@ fn choose(line: &[u8], bytes: &[u8], greys: &[u16], out: &mut [u16], work: &mut 
     false
 }
 
+fn seeded(line: &[u8], out: &mut [u16]) {
+    let seed = field(line, b"seed");
+    let s = shape_of(line);
+    let refusal = seeded_plates::seeded_plate(seed, s.width, s.height, out);
+    print_number(refusal as u64);
+    print_bar();
+    print_greys(out);
+}
+
 fn run_lent(line: &[u8], bytes: &[u8], greys: &[u16], out: &mut [u16], work: &mut [u32]) -> bool {
+    if is_named(line, b"seeded") {
+        seeded(line, out);
+        return true;
+    }
     if choose(line, bytes, greys, out, work) {
         print_bar();
         print_greys(out);

@@ -14,6 +14,7 @@
 //     sizes              a record, counts, losses, work
 //     file               a file, out
 //     pgm                a plate without its connectivity, out: its file
+//     seeded             seed, width, height, out: its test plate
 //     header             a file, at (where the header begins)
 //     text               a file: what sizelist prints
 //     ink                greatest, greys: refusal and percentage of each
