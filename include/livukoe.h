@@ -34,6 +34,7 @@
  *     livukoe_node_entries    13312
  *     livukoe_read_pgm         7168
  *     livukoe_write_pgm        1024
+ *     livukoe_seeded_plate     1024
  *     livukoe_write_record    13312
  *     livukoe_read_record     13312
  *     livukoe_cut_record      13312
@@ -204,6 +205,12 @@ struct livukoe_file_length {
 struct livukoe_file_length livukoe_write_pgm(
     const uint16_t *image, size_t image_length, uint32_t width, uint32_t height, uint32_t greatest,
     uint8_t *out, size_t out_length);
+
+/* Writes the test plate of a seed into `out`, the same on every machine, with the greatest grey 255. A state of 32 bits
+ * begins as the seed. For each pixel, row by row, it is multiplied by 1664525, 1013904223 is added (both wrap at 2^32),
+ * and the grey is its top eight bits: seed 0 begins 60, 71, 209, 170. The plate read back from its file is this one.
+ * Refusals 2, 5. Returns the refusal. */
+uint32_t livukoe_seeded_plate(uint32_t seed, uint32_t width, uint32_t height, uint16_t *out, size_t out_length);
 
 /* The record of a plate: its canonical description, by the tree of its nodes and each pixel's own node. It has two
  * forms. The new one, which is written, begins with the fields 0, 2 and the greatest grey; the old one lacks these, and

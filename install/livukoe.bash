@@ -9,6 +9,7 @@ _livukoe_options()
     nodes | sizelist) echo --connectivity ;;
     cut) echo --limit --force ;;
     convert) echo --to --force ;;
+    seed) echo --seed --size --force ;;
     plate) echo --force ;;
     esac
 }
@@ -20,14 +21,14 @@ _livukoe()
     [[ $word == = ]] && word=
     [[ $before == = ]] && before=${COMP_WORDS[COMP_CWORD - 2]}
     if ((COMP_CWORD == 1)); then
-        COMPREPLY=($(compgen -W "clean maxima nodes record plate cut convert sizelist help version" -- "$word"))
+        COMPREPLY=($(compgen -W "clean maxima nodes record plate cut convert sizelist seed help version" -- "$word"))
     elif [[ $before == --side ]]; then
         COMPREPLY=($(compgen -W "light dark" -- "$word"))
     elif [[ $before == --to ]]; then
         COMPREPLY=($(compgen -W "old new" -- "$word"))
     elif [[ $before == --connectivity ]]; then
         COMPREPLY=($(compgen -W "4 6 8" -- "$word"))
-    elif [[ $before == --limit ]]; then
+    elif [[ $before == --@(limit|seed|size) ]]; then
         COMPREPLY=()
     elif [[ $word == -* ]]; then
         COMPREPLY=($(compgen -W "$(_livukoe_options "$command")" -- "$word"))

@@ -88,6 +88,14 @@ mod c {
             out_length: usize,
         ) -> FileLength;
 
+        pub fn livukoe_seeded_plate(
+            seed: u32,
+            width: u32,
+            height: u32,
+            out: *mut u16,
+            out_length: usize,
+        ) -> u32;
+
         pub fn livukoe_write_record(
             image: *const u16,
             image_length: usize,
@@ -360,6 +368,11 @@ pub fn write_pgm(
     out: &mut [u8],
 ) -> FileLength {
     call!(c::livukoe_write_pgm, read image, width, height, greatest, write out)
+}
+
+/// Writes the test plate of a seed, whose greatest grey is 255.
+pub fn seeded_plate(seed: u32, width: u32, height: u32, out: &mut [u16]) -> u32 {
+    call!(c::livukoe_seeded_plate, seed, width, height, write out)
 }
 
 /// Writes the record of a plate with its connectivity, in the new form.

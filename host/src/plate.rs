@@ -51,6 +51,25 @@ impl Plate {
         Plate::new(width, height, BYTE_GREATEST, greys)
     }
 
+    /// The test plate of a seed, the same on every machine, with the greatest grey 255. A state of 32 bits begins as the
+    /// seed. For each pixel, row by row, it is multiplied by 1664525, 1013904223 is added, and the grey is its top eight
+    /// bits. Where there is no such plate, the refusal is 2.
+    ///
+    /// ```
+    /// use livukoe::{Plate, Refusal};
+    ///
+    /// let plate = Plate::seeded(0, 2, 2)?;
+    /// assert_eq!(plate, Plate::new(2, 2, 255, vec![60, 71, 209, 170]));
+    /// assert_eq!(Plate::seeded(0, 2, 0), Err(Refusal::Grid));
+    /// # Ok::<(), livukoe::Refusal>(())
+    /// ```
+    pub fn seeded(seed: u32, width: u32, height: u32) -> Result<Plate, Refusal> {
+        let pixels = u64::from(width) * u64::from(height);
+        let mut greys = vec![0; pixels.min(MAX_PIXELS as u64) as usize];
+        Refusal::check(lent::seeded_plate(seed, width, height, &mut greys))?;
+        Ok(Plate::new(width, height, BYTE_GREATEST, greys))
+    }
+
     pub fn width(&self) -> u32 {
         self.width
     }

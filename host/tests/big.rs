@@ -164,7 +164,7 @@ fn check_largest(
 #[test]
 fn the_largest_squares() {
     let work = &mut WorkSpace::new();
-    let coarse = picture("noise", 4096, 4096);
+    let coarse = Plate::seeded(1, 4096, 4096).expect("a plate");
     check_file(&coarse);
     check_nodes(work, &coarse, Four);
     drop(coarse);

@@ -208,6 +208,7 @@ fn completions() {
     assert_eq!(offered(&["livukoe", "c"]), ["clean", "convert", "cut"]);
     assert_eq!(offered(&["livukoe", "cut", "--"]), ["--force", "--limit"]);
     assert_eq!(offered(&["livukoe", "convert", "--"]), ["--force", "--to"]);
+    assert_eq!(offered(&["livukoe", "seed", "--s"]), ["--seed", "--size"]);
     assert_eq!(
         offered(&["livukoe", "clean", "--"]),
         ["--connectivity", "--force", "--limit", "--side"]

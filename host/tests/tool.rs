@@ -158,6 +158,33 @@ fn conversions() {
     }
 }
 
+/// Seed 0 begins 60, 71, 209, 170; the file is one that the tool reads.
+#[test]
+fn test_plates() {
+    let seed = |size: &str| {
+        let output = run_line(&format!("seed --seed 0 --size {size} -"), b"");
+        assert_ok(&output);
+        output.stdout
+    };
+    for size in ["4x1", "2x2", "1x4", "01x004"] {
+        let (width, height) = size.split_once('x').expect("a size");
+        let (width, height) = (
+            width.trim_start_matches('0'),
+            height.trim_start_matches('0'),
+        );
+        let header = format!("P5\n{width} {height}\n255\n");
+        let wanted = [header.as_bytes(), &[60, 71, 209, 170]].concat();
+        assert_eq!(seed(size), wanted, "{size}");
+    }
+    let plate = seed("40x30");
+    assert_eq!(
+        run_line("clean --side 1 --limit 1 - -", &plate).stdout,
+        plate
+    );
+    let last = run_line("seed --size=1x1 --seed=4294967295 -", b"");
+    assert_eq!(last.stdout, b"P5\n1 1\n255\n\x3c");
+}
+
 /// The small plate with each grey as so many of a greatest grey.
 fn small_of(greatest: u16, times: u16) -> Vec<u8> {
     let greys = SMALL[11..].iter().map(|&grey| times * u16::from(grey));
@@ -394,8 +421,9 @@ fn standard_streams() {
 #[test]
 fn a_broken_pipe() {
     let folder = Folder::new("pipe");
-    let noise: Vec<u8> = (0..1 << 16).map(|at: u32| ((at * at) >> 7) as u8).collect();
-    let input = folder.file("in.pgm", &[b"P5 256 256 255\n", &noise[..]].concat());
+    let input = folder.path("in.pgm");
+    let words = ["seed", "--seed", "1", "--size", "256x256"];
+    assert_ok(&run(&words, &[&input]));
     let mut child = tool()
         .args([Path::new("nodes"), &input])
         .stdout(Stdio::piped())
@@ -555,6 +583,29 @@ fn refusals_of_plate_files_with_figures() {
     assert_tells("maxima", &[b"P5 3 2 258\n", &greys[..]].concat(), above);
 }
 
+/// The size of a test plate is told as it was given.
+#[test]
+fn refusals_of_sizes() {
+    const EACH: &str = "pixels; width and height are each 1 to 32768";
+    for (size, words) in [
+        ("0x4", format!("0 x 4 {EACH}")),
+        ("00x0", format!("00 x 0 {EACH}")),
+        ("1x32769", format!("1 x 32769 {EACH}")),
+        ("4294967296x1", format!("4294967296 x 1 {EACH}")),
+        (
+            "99999999999999999999x1",
+            format!("99999999999999999999 x 1 {EACH}"),
+        ),
+        (
+            "5000x4000",
+            "5000 x 4000 = 20000000 pixels; at most 16777216".to_owned(),
+        ),
+    ] {
+        let output = run_line(&format!("seed --seed 1 --size {size} -"), b"");
+        assert_says(&output, 1, &format!("--size {size}: refused 2: {words}"));
+    }
+}
+
 /// A command on standard input is refused in these words.
 fn assert_tells(command: &str, input: &[u8], wanted: &str) {
     let output = run_line(&format!("{command} - -"), input);
@@ -617,7 +668,7 @@ fn refusals_of_the_new_form_with_figures() {
 }
 
 /// Command lines, and what is wrong with them.
-const SLIPS: [(&str, &str); 47] = [
+const SLIPS: [(&str, &str); 62] = [
     ("wash", "there is no command wash"),
     ("clean", "clean lacks --side light or --side dark"),
     ("clean a b", "clean lacks --side light or --side dark"),
@@ -722,6 +773,51 @@ const SLIPS: [(&str, &str); 47] = [
     ),
     ("Open", "there is no command Open"),
     ("nodes --\n", "there is no option --\\n"),
+    ("seed", "seed lacks --seed"),
+    ("seed --size 4x3 a", "seed lacks --seed"),
+    ("seed --seed 0 a", "seed lacks --size"),
+    ("seed --seed", "--seed lacks its value"),
+    (
+        "seed --seed -1 --size 4x3 a",
+        "the seed -1 is not a whole number from 0 to 4294967295",
+    ),
+    (
+        "seed --seed=4294967296 --size 4x3 a",
+        "the seed 4294967296 is not a whole number from 0 to 4294967295",
+    ),
+    (
+        "seed --seed +1 --size 4x3 a",
+        "the seed +1 is not a whole number from 0 to 4294967295",
+    ),
+    (
+        "seed --seed 1 --size 4 a",
+        "the size 4 is not WIDTHxHEIGHT, as 640x480",
+    ),
+    (
+        "seed --seed 1 --size=4x a",
+        "the size 4x is not WIDTHxHEIGHT, as 640x480",
+    ),
+    (
+        "seed --seed 1 --size 4x3x2 a",
+        "the size 4x3x2 is not WIDTHxHEIGHT, as 640x480",
+    ),
+    (
+        "seed --seed 1 --seed 1 --size 4x3 a",
+        "--seed is given twice",
+    ),
+    (
+        "seed --seed 1 --size 4x3",
+        "seed takes OUT, and 0 files are given",
+    ),
+    (
+        "seed --seed 1 --size 4x3 a b",
+        "seed takes OUT, and 2 files are given",
+    ),
+    (
+        "seed --seed 1 --size 4x3 --limit 2 a",
+        "seed takes no --limit",
+    ),
+    ("maxima --size 4x3 a b", "maxima takes no --size"),
 ];
 
 /// A slip is told in one line, which says where there is more.

@@ -240,6 +240,24 @@ static void check_written_files(void)
     free(out);
 }
 
+/* The test plate of seed 0 in rows of one, two and four, and every refusal. */
+static void check_seeded_plates(void)
+{
+    static const uint16_t greys[4] = {60, 71, 209, 170};
+    uint16_t *out = filled(5 * sizeof *out);
+    for (uint32_t width = 1; width <= 4; width *= 2) {
+        EXPECT(livukoe_seeded_plate(0, width, 4 / width, out, 3) == LIVUKOE_OUTPUT_SHORT);
+        EXPECT(livukoe_seeded_plate(0, width, 0, out, 5) == LIVUKOE_GRID);
+        EXPECT(livukoe_seeded_plate(0, 32769, width, out, 0) == LIVUKOE_GRID);
+        EXPECT(livukoe_seeded_plate(0, 65536, 65536, out, 5) == LIVUKOE_GRID);
+        EXPECT(all(out, 77, 5 * sizeof *out));
+        EXPECT(livukoe_seeded_plate(0, width, 4 / width, out, 5) == 0);
+        EXPECT(memcmp(out, greys, sizeof greys) == 0 && all(out + 4, 77, sizeof *out));
+        memset(out, 77, 5 * sizeof *out);
+    }
+    free(out);
+}
+
 static void check_ink(void)
 {
     static const uint32_t inks[6][3] = {{0, 255, 100},    {255, 255, 0},  {10, 255, 96},
@@ -475,6 +493,7 @@ int main(void)
     check_maxima_and_nodes();
     check_files();
     check_written_files();
+    check_seeded_plates();
     check_ink();
     check_record(RECORD, NEW);
     check_record(RECORD + FRONT, OLD);

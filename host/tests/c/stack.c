@@ -171,6 +171,12 @@ static void write_pgm(void)
             done += livukoe_write_pgm(GREYS, greatest, bytes, places).refusal == 0;
 }
 
+static void seeded_plate(void)
+{
+    PLATE_ALONE for (size_t places = 20; places <= MANY; places += MANY - 20) done +=
+        livukoe_seeded_plate(1, plate->width, plate->height, out, places) == 0;
+}
+
 static void write_record(void)
 {
     EACH_PLATE for (size_t places = 20; places <= RECORD; places += RECORD - 20) done +=
@@ -240,10 +246,11 @@ static const struct function {
     {"livukoe_clean", clean},                   {"livukoe_regional_maxima", regional_maxima},
     {"livukoe_node_list", node_list},           {"livukoe_node_entries", node_entries},
     {"livukoe_read_pgm", read_pgm},             {"livukoe_write_pgm", write_pgm},
-    {"livukoe_write_record", write_record},     {"livukoe_read_record", read_record},
-    {"livukoe_cut_record", cut_record},         {"livukoe_size_list", size_list},
-    {"livukoe_record_to_old", record_to_old},   {"livukoe_record_to_new", record_to_new},
-    {"livukoe_write_cut_list", write_cut_list}, {"livukoe_ink_percentage", ink_percentage},
+    {"livukoe_seeded_plate", seeded_plate},     {"livukoe_write_record", write_record},
+    {"livukoe_read_record", read_record},       {"livukoe_cut_record", cut_record},
+    {"livukoe_size_list", size_list},           {"livukoe_record_to_old", record_to_old},
+    {"livukoe_record_to_new", record_to_new},   {"livukoe_write_cut_list", write_cut_list},
+    {"livukoe_ink_percentage", ink_percentage},
 };
 
 static unsigned char *stack;

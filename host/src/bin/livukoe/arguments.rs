@@ -26,6 +26,7 @@ pub enum Verb {
     Cut,
     Convert,
     SizeList,
+    Seed,
 }
 
 /// A command with its arguments.
@@ -35,125 +36,147 @@ pub struct Command {
     /// None where the command takes none.
     pub side: Option<Side>,
     /// 0 where the command takes none.
-    pub limit: Limit,
+    pub limit: Number,
     /// None where the command takes none.
     pub to: Option<RecordForm>,
+    /// 0 where the command takes none.
+    pub seed: u32,
+    /// 0 x 0 where the command takes none.
+    pub size: Size,
     pub connectivity: Connectivity,
     /// Whether a write-protected output is replaced.
     pub force: bool,
+    /// Standard input, `-`, where the command takes none.
     pub input: OsString,
     /// Standard output, `-`, where the command takes none.
     pub output: OsString,
 }
 
-/// A limit, and how it was given. One that is too large for its type is above every plate's pixels, and is refused as such.
+/// A number, and how it was given. One that is too large for its type is beyond every plate, and is refused as such.
 #[derive(Debug, Default, PartialEq)]
-pub struct Limit {
+pub struct Number {
     pub number: u32,
     pub given: String,
+}
+
+/// The size of a plate.
+#[derive(Debug, Default, PartialEq)]
+pub struct Size {
+    pub width: Number,
+    pub height: Number,
+}
+
+/// Which files a command takes.
+#[derive(Clone, Copy, PartialEq)]
+enum Files {
+    In,
+    Out,
+    InAndOut,
 }
 
 /// A command's name, and which arguments it takes.
 struct Form {
     name: &'static str,
     verb: Verb,
-    side: bool,
-    limit: bool,
-    to: bool,
+    /// The options that must be there.
+    needs: &'static [&'static str],
     connectivity: bool,
-    output: bool,
+    files: Files,
     line: &'static str,
     about: &'static str,
 }
 
-const FORMS: [Form; 8] = [
+impl Form {
+    fn takes(&self, option: &str) -> bool {
+        match option {
+            "--connectivity" => self.connectivity,
+            "--force" => self.files != Files::In,
+            option => self.needs.contains(&option),
+        }
+    }
+}
+
+const FORMS: [Form; 9] = [
     Form {
         name: "clean",
         verb: Verb::Clean,
-        side: true,
-        limit: true,
-        to: false,
+        needs: &["--side", "--limit"],
         connectivity: true,
-        output: true,
+        files: Files::InAndOut,
         line: "clean --side light|dark --limit N [--connectivity 4|6|8] IN.pgm OUT.pgm",
         about: "take away light (dark) patches of fewer than N pixels, but none that reaches the border",
     },
     Form {
         name: "maxima",
         verb: Verb::Maxima,
-        side: false,
-        limit: false,
-        to: false,
+        needs: &[],
         connectivity: true,
-        output: true,
+        files: Files::InAndOut,
         line: "maxima [--connectivity 4|6|8] IN.pgm OUT.pgm",
         about: "the greatest grey inside regional maxima, 0 elsewhere",
     },
     Form {
         name: "nodes",
         verb: Verb::Nodes,
-        side: false,
-        limit: false,
-        to: false,
+        needs: &[],
         connectivity: true,
-        output: false,
+        files: Files::In,
         line: "nodes  [--connectivity 4|6|8] IN.pgm",
         about: "a line for each node: number level parent area anchor",
     },
     Form {
         name: "record",
         verb: Verb::Record,
-        side: false,
-        limit: false,
-        to: false,
+        needs: &[],
         connectivity: true,
-        output: true,
+        files: Files::InAndOut,
         line: "record [--connectivity 4|6|8] IN.pgm OUT.rec",
         about: "write the record of a plate, in the new form",
     },
     Form {
         name: "plate",
         verb: Verb::Plate,
-        side: false,
-        limit: false,
-        to: false,
+        needs: &[],
         connectivity: false,
-        output: true,
+        files: Files::InAndOut,
         line: "plate  IN.rec OUT.pgm",
         about: "the plate of a record",
     },
     Form {
         name: "cut",
         verb: Verb::Cut,
-        side: false,
-        limit: true,
-        to: false,
+        needs: &["--limit"],
         connectivity: false,
-        output: true,
+        files: Files::InAndOut,
         line: "cut    --limit N IN.rec OUT.pgm",
         about: "the plate of a record, cleaned on the light side under its connectivity",
     },
     Form {
         name: "convert",
         verb: Verb::Convert,
-        side: false,
-        limit: false,
-        to: true,
+        needs: &["--to"],
         connectivity: false,
-        output: true,
+        files: Files::InAndOut,
         line: "convert --to old|new IN.rec OUT.rec",
         about: "the record in the old or the new form; only with the greatest grey 255 is there an old one",
     },
     Form {
         name: "sizelist",
         verb: Verb::SizeList,
-        side: false,
-        limit: false,
-        to: false,
+        needs: &[],
         connectivity: true,
-        output: false,
+        files: Files::In,
         line: "sizelist [--connectivity 4|6|8] IN.pgm",
         about: "how many nodes off the border have each area, the grey that goes with them, and the grey held",
+    },
+    Form {
+        name: "seed",
+        verb: Verb::Seed,
+        needs: &["--seed", "--size"],
+        connectivity: false,
+        files: Files::Out,
+        line: "seed   --seed N --size WxH OUT.pgm",
+        about: "the test plate of a seed from 0 to 4294967295, the same on every machine",
     },
 ];
 
@@ -179,7 +202,7 @@ pixel wide around the picture, black (0) for the light side, white (the greatest
 afterwards: only the frame then lies on the border, and no patch inside reaches it.
 An OUT that is write-protected is left as it is, except with --force, which replaces it.
 IN.pgm is a binary PGM (P5) of up to 32768 x 32768 and 16777216 pixels with a greatest grey of 1 to 65535: one byte a
-pixel up to 255, else two, the high one first. OUT.pgm has the same greatest grey.
+pixel up to 255, else two, the high one first. OUT.pgm has the same greatest grey, and that of a seed has 255.
 IN.rec is a record in the new form, which has the greatest grey, or in the old one, whose greatest grey is 255.
 
 Exit status: 0 done; 1 refused, with the number and the reason; 2 bad usage; 3 a file cannot be read or written,
@@ -221,10 +244,32 @@ struct Given {
     help: bool,
     force: bool,
     side: Option<Side>,
-    limit: Option<Limit>,
+    limit: Option<Number>,
     to: Option<RecordForm>,
+    seed: Option<u32>,
+    size: Option<Size>,
     connectivity: Option<Connectivity>,
     files: Vec<OsString>,
+}
+
+/// The options but for help, in the order in which one too many is told.
+const OPTIONS: [&str; 7] = [
+    "--side",
+    "--limit",
+    "--to",
+    "--seed",
+    "--size",
+    "--connectivity",
+    "--force",
+];
+
+/// What is to be written for an option that lacks.
+fn choices(option: &str) -> &str {
+    match option {
+        "--side" => "--side light or --side dark",
+        "--to" => "--to old or --to new",
+        option => option,
+    }
 }
 
 impl Given {
@@ -285,7 +330,10 @@ impl Given {
                 let side = chosen("side", &value()?, by_text, "neither light nor dark")?;
                 self.side.replace(side).is_none()
             }
-            "--limit" => self.limit.replace(limit(value()?)?).is_none(),
+            "--limit" => {
+                let limit = chosen("limit", &value()?, number, "not a whole number")?;
+                self.limit.replace(limit).is_none()
+            }
             "--to" => {
                 let form = chosen(
                     "form",
@@ -294,6 +342,15 @@ impl Given {
                     "neither old nor new",
                 )?;
                 self.to.replace(form).is_none()
+            }
+            "--seed" => {
+                let wrong = "not a whole number from 0 to 4294967295";
+                let seed = chosen("seed", &value()?, seed, wrong)?;
+                self.seed.replace(seed).is_none()
+            }
+            "--size" => {
+                let size = chosen("size", &value()?, size, "not WIDTHxHEIGHT, as 640x480")?;
+                self.size.replace(size).is_none()
             }
             "--connectivity" => {
                 let connectivity = chosen("connectivity", &value()?, by_text, "not 4, 6 or 8")?;
@@ -304,43 +361,38 @@ impl Given {
         once(name, first)
     }
 
+    fn has(&self, option: &str) -> bool {
+        match option {
+            "--side" => self.side.is_some(),
+            "--limit" => self.limit.is_some(),
+            "--to" => self.to.is_some(),
+            "--seed" => self.seed.is_some(),
+            "--size" => self.size.is_some(),
+            "--connectivity" => self.connectivity.is_some(),
+            _ => self.force,
+        }
+    }
+
     /// Whether the options are those of a form: what it needs is there, and nothing that it does not take.
     fn check_options(&self, form: &Form) -> Result<(), String> {
         let name = form.name;
-        let lacking = [
-            (
-                "--side light or --side dark",
-                form.side && self.side.is_none(),
-            ),
-            ("--limit", form.limit && self.limit.is_none()),
-            ("--to old or --to new", form.to && self.to.is_none()),
-        ];
-        if let Some((option, _)) = lacking.into_iter().find(|(_, lacking)| *lacking) {
-            return Err(format!("{name} lacks {option}"));
+        if let Some(lacking) = form.needs.iter().find(|option| !self.has(option)) {
+            return Err(format!("{name} lacks {}", choices(lacking)));
         }
-        let unwanted = [
-            ("--side", self.side.is_some() && !form.side),
-            ("--limit", self.limit.is_some() && !form.limit),
-            ("--to", self.to.is_some() && !form.to),
-            (
-                "--connectivity",
-                self.connectivity.is_some() && !form.connectivity,
-            ),
-            ("--force", self.force && !form.output),
-        ];
-        if let Some((option, _)) = unwanted.into_iter().find(|(_, unwanted)| *unwanted) {
-            return Err(format!("{name} takes no {option}"));
+        let unwanted = |option: &&str| self.has(option) && !form.takes(option);
+        match OPTIONS.into_iter().find(unwanted) {
+            Some(option) => Err(format!("{name} takes no {option}")),
+            None => Ok(()),
         }
-        Ok(())
     }
 
     /// The command of a form, whose arguments are all there and no others.
     fn into_command(self, form: &Form) -> Result<Command, String> {
         self.check_options(form)?;
-        let (wanted, files) = if form.output {
-            (2, "IN and OUT")
-        } else {
-            (1, "IN")
+        let (wanted, files) = match form.files {
+            Files::In => (1, "IN"),
+            Files::Out => (1, "OUT"),
+            Files::InAndOut => (2, "IN and OUT"),
         };
         if self.files.len() != wanted {
             let count = self.files.len();
@@ -349,15 +401,21 @@ impl Given {
             return Err(format!("{name} takes {files}, and {count} {are} given"));
         }
         let mut files = self.files.into_iter();
+        let mut next = |taken| match taken {
+            true => files.next().unwrap_or_default(),
+            false => "-".into(),
+        };
         Ok(Command {
             verb: form.verb,
             side: self.side,
             limit: self.limit.unwrap_or_default(),
             to: self.to,
+            seed: self.seed.unwrap_or_default(),
+            size: self.size.unwrap_or_default(),
             connectivity: self.connectivity.unwrap_or_default(),
             force: self.force,
-            input: files.next().unwrap_or_default(),
-            output: files.next().unwrap_or_else(|| "-".into()),
+            input: next(form.files != Files::Out),
+            output: next(form.files != Files::In),
         })
     }
 }
@@ -370,16 +428,7 @@ fn once(name: &str, first: bool) -> Result<(), String> {
     }
 }
 
-fn limit(word: OsString) -> Result<Limit, String> {
-    let given = word.to_string_lossy().into_owned();
-    if given.is_empty() || !given.bytes().all(|byte| byte.is_ascii_digit()) {
-        return Err(format!("the limit {} is not a whole number", shown(&word)));
-    }
-    let number = given.parse().unwrap_or(u32::MAX);
-    Ok(Limit { number, given })
-}
-
-/// The value of an option, one of a few, or what is wrong with it.
+/// The value of an option, or what is wrong with it.
 fn chosen<T>(
     name: &str,
     word: &OsStr,
@@ -392,4 +441,23 @@ fn chosen<T>(
 
 fn by_text<T: FromStr>(text: &str) -> Option<T> {
     text.parse().ok()
+}
+
+/// A whole number, of however many digits.
+fn number(text: &str) -> Option<Number> {
+    let whole = !text.is_empty() && text.bytes().all(|byte| byte.is_ascii_digit());
+    whole.then(|| Number {
+        number: text.parse().unwrap_or(u32::MAX),
+        given: text.to_owned(),
+    })
+}
+
+fn seed(text: &str) -> Option<u32> {
+    by_text(&number(text)?.given)
+}
+
+fn size(text: &str) -> Option<Size> {
+    let (width, height) = text.split_once('x')?;
+    let (width, height) = (number(width)?, number(height)?);
+    Some(Size { width, height })
 }

@@ -1,8 +1,10 @@
 //! Runs a command: the input is read whole, the work is done, and only then is anything written.
 
+use std::ffi::OsStr;
+
 use livukoe::{Plate, Record, RecordForm, Refusal};
 
-use crate::arguments::{Command, Verb};
+use crate::arguments::{Command, Size, Verb};
 use crate::failure::Failure;
 use crate::input;
 use crate::output;
@@ -19,6 +21,7 @@ pub fn run(command: &Command) -> Result<(), Failure> {
         Verb::Cut => cut(command),
         Verb::Convert => convert(command),
         Verb::SizeList => size_list(command),
+        Verb::Seed => seed(command),
     }
 }
 
@@ -97,6 +100,20 @@ fn size_list(command: &Command) -> Result<(), Failure> {
         plate.record(command.connectivity)?.sizes()
     })?;
     output::write(command, &|out| write!(out, "{sizes}"))
+}
+
+fn seed(command: &Command) -> Result<(), Failure> {
+    let Size { width, height } = &command.size;
+    let plate = Plate::seeded(command.seed, width.number, height.number);
+    let file = plate.and_then(|plate| plate.to_pgm()).map_err(|refusal| {
+        let facts = Facts {
+            asked: Some([&width.given, &height.given]),
+            ..Facts::default()
+        };
+        let name = format!("--size {}x{}", width.given, height.given);
+        Failure::refused(OsStr::new(&name), refusal, &facts)
+    })?;
+    write_bytes(command, &file)
 }
 
 /// Does the work on the plate of a plate file, and shows its progress.

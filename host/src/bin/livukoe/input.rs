@@ -50,6 +50,7 @@ pub fn from_record<T>(
         goes_on,
         size: record.head().ok().map(|head| (head.width, head.height)),
         limit: &command.limit.given,
+        ..Facts::default()
     };
     judge(command, answer, &facts)
 }

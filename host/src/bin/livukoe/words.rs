@@ -18,6 +18,8 @@ pub struct Facts<'a> {
     pub size: Option<(u32, u32)>,
     /// The limit as it was given.
     pub limit: &'a str,
+    /// Width and height as they were given, where no input has them.
+    pub asked: Option<[&'a str; 2]>,
 }
 
 /// How a refusal is told.
@@ -50,13 +52,23 @@ pub fn of(refusal: Refusal, facts: &Facts) -> String {
 }
 
 fn grid(facts: &Facts) -> Option<String> {
-    let Header { width, height, .. } = header::scan(facts.bytes).ok()?;
-    let extent = 1..=u64::from(MAX_EXTENT);
-    Some(if extent.contains(&width) && extent.contains(&height) {
-        let pixels = width * height;
-        format!("{width} x {height} = {pixels} pixels; at most {MAX_PIXELS}")
-    } else {
-        format!("{width} x {height} pixels; width and height are each 1 to {MAX_EXTENT}")
+    let [width, height] = match facts.asked {
+        Some(size) => size.map(str::to_owned),
+        None => {
+            let Header { width, height, .. } = header::scan(facts.bytes).ok()?;
+            [width, height].map(|extent| extent.to_string())
+        }
+    };
+    let fitting = |extent: &str| {
+        let extent = extent.parse().ok()?;
+        (1..=MAX_EXTENT).contains(&extent).then_some(extent)
+    };
+    Some(match (fitting(&width), fitting(&height)) {
+        (Some(columns), Some(rows)) => {
+            let pixels = columns * rows;
+            format!("{width} x {height} = {pixels} pixels; at most {MAX_PIXELS}")
+        }
+        _ => format!("{width} x {height} pixels; width and height are each 1 to {MAX_EXTENT}"),
     })
 }
 
