@@ -185,6 +185,23 @@ fn test_plates() {
     assert_eq!(last.stdout, b"P5\n1 1\n255\n\x3c");
 }
 
+/// The README's line on test plates, as it is written there.
+#[test]
+fn the_test_plate_of_the_readme() {
+    let mut lines = include_str!("../../README.md").lines().map(str::trim);
+    let line = lines.find(|line| line.starts_with("bin/livukoe seed"));
+    let (command, printed) = line
+        .and_then(|line| line.split_once('#'))
+        .expect("a command");
+    let folder = Folder::new("checksum");
+    let output = by_shell(&command.replace("bin/livukoe", "\"$1\""), &[])
+        .current_dir(folder.path(""))
+        .output()
+        .expect("a run");
+    assert_ok(&output);
+    assert_eq!(text(&output.stdout).trim(), printed.trim());
+}
+
 /// The small plate with each grey as so many of a greatest grey.
 fn small_of(greatest: u16, times: u16) -> Vec<u8> {
     let greys = SMALL[11..].iter().map(|&grey| times * u16::from(grey));
