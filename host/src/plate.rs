@@ -52,8 +52,8 @@ impl Plate {
     }
 
     /// The test plate of a seed, the same on every machine, with the greatest grey 255. A state of 32 bits begins as the
-    /// seed. For each pixel, row by row, it is multiplied by 1664525, 1013904223 is added, and the grey is its top eight
-    /// bits. Where there is no such plate, the refusal is 2.
+    /// seed. For each pixel, row by row, it is multiplied by 1664525, 1013904223 is added (both wrap), and the grey is its
+    /// top eight bits. Where there is no such plate, the refusal is 2.
     ///
     /// ```
     /// use livukoe::{Plate, Refusal};

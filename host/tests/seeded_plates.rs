@@ -35,12 +35,12 @@ fn by_chance() {
     seen.assert_all(&[0, 2, 5]);
 }
 
-/// Seeds one bit long, and those beside them.
+/// Powers of two, the numbers below them, and what is left of the greatest seed without one.
 #[test]
 fn seeds() {
     let mut chance = Chance::new(32);
     for bit in 0..32 {
-        for seed in [0, 1 << bit, (1 << bit) - 1, u32::MAX - (1 << bit)] {
+        for seed in [1 << bit, (1 << bit) - 1, u32::MAX - (1 << bit)] {
             compare(&mut chance, seed, 5, 3);
         }
     }
@@ -62,7 +62,7 @@ fn the_largest_plates() {
     }
 }
 
-/// Through the safe wrapper, with sizes whose product is beyond 32 and 64 bits.
+/// Through the safe wrapper, also with sizes whose product is beyond 32 bits.
 #[test]
 fn beyond_the_grid() {
     const MOST: u32 = u32::MAX;

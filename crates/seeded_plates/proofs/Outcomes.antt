@@ -21,7 +21,7 @@ module _ (seed w h : ℕ) (out : List ℕ) where
 
   module _ (sizes : gridFits w h ≡ true) where
     -- where 2 is not met 5 decides
-    pub last : seededRefusal w h (length out) ≡ outRefusal (w * h) (length out) 0
+    last : seededRefusal w h (length out) ≡ outRefusal (w * h) (length out) 0
     unfolding seededRefusal
     last = rw sizes
 

@@ -19,7 +19,7 @@ use Rattle.seeded_plates.specs.Sequence.{seededPlate, seededRefusal, top
 use Rattle.seeded_plates.specs.SeededPlates.{SeededPlateClaim, writtenFile, generated, stateAfter}
 use Rattle.seeded_plates.proofs.Sequence.{grey-is, greys-long, greys-low}
 
-pub plate-long : (seed w h : ℕ) → length (seededPlate seed w h) ≡ w * h
+plate-long : (seed w h : ℕ) → length (seededPlate seed w h) ≡ w * h
 unfolding seededPlate
 plate-long seed w h = greys-long (w * h) seed
 

@@ -26,7 +26,7 @@ grey-is (suc n) s zero l = refl
 grey-is (suc n) s (suc p) l = grey-is n (nextState s) p (omega arith) ∙ ap topEight (step-first (suc p) s)
 
 -- a state after a step has 32 bits, and its top eight bits are a byte
-pub top-low : (s : ℕ) → topEight (nextState s) ≤ byteGreatest
+top-low : (s : ℕ) → topEight (nextState s) ≤ byteGreatest
 unfolding nextState topEight
 top-low s = omega arith
 

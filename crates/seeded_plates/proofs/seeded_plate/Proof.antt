@@ -7,7 +7,7 @@ use borrow.Author.Needs.{needs}
 use borrow.Author.Tests.{not-false, not-true}
 use denote.Ref.{now}
 use lib.ListN.{length}
-use Rattle.meaning.specs.Plate.{gridFits}
+use Rattle.meaning.specs.Plate.{gridFits, maxPixels}
 use Rattle.theory_connectivity.proofs.Sizes.{grid-sizes}
 use Rattle.plate_refusals.proofs.Refusals.{out-none}
 use Rattle.seeded_plates.proofs.Outcomes.{beyond-grid, generated-whole, too-short}
@@ -17,6 +17,10 @@ use Rattle.seeded_plates.proofs.seeded_plate.Tie as tie
 -- the grid fits
 fits : (c : tie.Else1) → let a = c .before .before .before .args in gridFits (a .width) (a .height) ≡ true
 fits c = sym (c .before .grid-fits .ensures) ∙ not-false (c .before .grid-fits .result) (c .if1 .left)
+
+-- so the pixels are few
+few : (c : tie.Else1) → let a = c .before .before .before .args in a .width * a .height ≤ maxPixels
+few c = let a = c .before .before .before .args in grid-sizes (a .width) (a .height) (fits c) .few-pixels
 
 -- the output has a place for each pixel
 room : (c : tie.Else2) → let a = c .before .before .before .before .before .args in a .width * a .height ≤ length (now (a .out))
@@ -34,10 +38,10 @@ returns c =
     (sym (c .before .grid-fits .ensures) ∙ not-true (c .before .grid-fits .result) (c .if1 .taken))
 
 mul-pixels : tie.Need-mul-pixels
-mul-pixels c = let a = c .before .before .before .args in omega (arith, grid-sizes (a .width) (a .height) (fits c) .few-pixels)
+mul-pixels c = omega (arith, few c)
 
 cast-pixels : tie.Need-cast-pixels
-cast-pixels c = let a = c .before .before .before .args in omega (arith, grid-sizes (a .width) (a .height) (fits c) .few-pixels)
+cast-pixels c = omega (arith, few c)
 
 out-refusal-requires : tie.Need-out-refusal-requires
 out-refusal-requires c κs = search needs
