@@ -1,4 +1,6 @@
 // The neighbours of a pixel, looked at until the flood rises.
+#![tactic(auto)]
+
 ghost use Rattle.std.specs.Prelude.{◌≡◌, ◌+◌, ◌*◌, ◌<◌};
 ghost use Rattle.flood_laws.specs.Contracts.{Looking, Toward, NewLevel, Looked, LookedIn, UpperRow, LowerRow, Visited};
 

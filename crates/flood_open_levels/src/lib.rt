@@ -1,4 +1,6 @@
 // The set of open levels of a flood, levels below 65,536, as three layers of bits in one lent slice: opening a level, shutting the lightest.
+#![tactic(auto)]
+
 ghost use Rattle.std.specs.Prelude.{◌+◌, ◌<◌};
 ghost use Rattle.meaning.specs.Sets.{nth};
 ghost use Rattle.flood_open_levels.specs.Levels.{Layers, Openable, Changed, Shuttable, Shut};

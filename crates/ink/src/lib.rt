@@ -1,4 +1,6 @@
 // The ink percentage of a grey, by its formula: SPECIFICATION 8.
+#![tactic(auto)]
+
 ghost use Rattle.std.specs.Prelude.{◌≡◌, ◌+◌, ◌/◌, ◌≤◌, ◌<◌};
 ghost use Rattle.meaning.specs.Plate.{max_greatest};
 ghost use Rattle.meaning.specs.Ink.{rounded, ink_of};

@@ -1,5 +1,7 @@
 // The operations for programs in C and Rust: one exported function for each, with the contract of the function that it calls.
 // A slice is passed as a pointer and a length. include/livukoe.h declares and describes the functions.
+#![tactic(auto)]
+
 ghost use Rattle.std.specs.Prelude.{◌≡◌, true, false, length};
 ghost use Rattle.meaning.specs.Answers.{out_after};
 ghost use Rattle.plate_filter.specs.Operations.{Cleaned, MaximaMarked, NodesListed, columns};

@@ -1,4 +1,6 @@
 // The component tree (max-tree) of the greys in the work space: levels, flooding, numbering. For the crates above, which check sizes first.
+#![tactic(auto)]
+
 ghost use Rattle.work_columns.specs.Layout.{Buildable, shape_of};
 ghost use Rattle.maxtree_columns.specs.Tree.{Built};
 

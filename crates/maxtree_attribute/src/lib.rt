@@ -1,4 +1,6 @@
 // What is held against the limit, by node of the tree that stands in the work space: its area, or all the pixels where it reaches the trim edge.
+#![tactic(auto)]
+
 ghost use Rattle.std.specs.Prelude.{◌<◌, T};
 ghost use Rattle.meaning.specs.Plate.{on_trim_edge};
 ghost use Rattle.work_columns.specs.Columns.{Room, col};

@@ -1,4 +1,6 @@
 // Values by node in the work space, and what an operation writes out of it.
+#![tactic(auto)]
+
 ghost use Rattle.std.specs.Prelude.{◌≡◌, suc, ◌≤◌, ◌<◌, leb, length};
 ghost use Rattle.meaning.specs.Answers.{over};
 ghost use Rattle.meaning.specs.Cut.{cut};

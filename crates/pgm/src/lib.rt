@@ -1,5 +1,7 @@
 // Reads a plate file, the binary form of Netpbm's PGM: SPECIFICATION 5. specs/File.antt has what reading a file answers, by the grammar of its
 // header in crates/pgm_header, and specs/Examples.antt examples.
+#![tactic(auto)]
+
 ghost use Rattle.std.specs.Prelude.{◌≡◌, true, ◌≤◌, ◌<◌, length, drop};
 ghost use Rattle.meaning.specs.Plate.{grid_fits, grey};
 ghost use Rattle.meaning.specs.Answers.{any_above, over, out_after};

@@ -1,5 +1,7 @@
 // Reads the header of a plate file, the binary form of Netpbm's PGM: SPECIFICATION 5. specs/Grammar.antt has its grammar on lists of bytes,
 // specs/Steps.antt what the answers say in the grammar's terms.
+#![tactic(auto)]
+
 ghost use Rattle.std.specs.Prelude.{◌≡◌, ◌+◌, ◌≤◌, length, drop};
 ghost use Rattle.std.proofs.Math.Seq.{slice};
 ghost use Rattle.pgm_header.specs.Grammar.{blank, line_end, in_comment, is_digit, front, digits_value, mix, comment, gap, one_blank, number, opening, header};

@@ -1,4 +1,6 @@
 // Reads a roll, plate files one after the other: SPECIFICATION 5. specs/Roll.antt has what a roll is, and what the operations answer.
+#![tactic(auto)]
+
 ghost use Rattle.std.specs.Prelude.{◌≡◌, ◌≤◌, max, length, drop};
 ghost use Rattle.meaning.specs.Answers.{out_after};
 ghost use Rattle.meaning.specs.Sets.{pick};

@@ -1,5 +1,7 @@
 // Writes a plate file, in the one form without comments or leading zeros: SPECIFICATION 5. specs/Writing.antt has the file and what writing it
 // answers.
+#![tactic(auto)]
+
 ghost use Rattle.std.specs.Prelude.{◌≡◌, false, ◌+◌, ◌*◌, ◌≤◌, length};
 ghost use Rattle.meaning.specs.Plate.{byte_greatest};
 ghost use Rattle.meaning.specs.Answers.{any_above, out_after};

@@ -1,5 +1,7 @@
 // The node list as one lent list of node entries. Few functions see the list: `fill` and `node_entries` write it, `node_at` reads it; their proofs are
 // by hand.
+#![tactic(auto)]
+
 ghost use Rattle.std.specs.Prelude.{◌≡◌, ◌++◌, ◌*◌, ◌<◌, eqb, drop, get_or, replicate};
 ghost use Rattle.meaning.specs.Sets.{pick, table};
 ghost use Rattle.work_columns.specs.Columns.{Room};

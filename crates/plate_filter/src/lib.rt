@@ -1,4 +1,6 @@
 // Cleaning, regional maxima, and the node list of a plate: operations that callers use, and that require nothing.
+#![tactic(auto)]
+
 ghost use Rattle.std.specs.Prelude.{◌≡◌, min};
 ghost use Rattle.plate_filter.specs.Operations.{Cleaned, MaximaMarked, NodesListed, columns, shortest, Lent, ColumnsWritten};
 

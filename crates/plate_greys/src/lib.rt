@@ -1,4 +1,6 @@
 // The greys of a plate, or of its negative, are copied into the work space.
+#![tactic(auto)]
+
 ghost use Rattle.std.specs.Prelude.{◌≡◌, ◌≤◌};
 ghost use Rattle.plate_greys.specs.Sides.{side_grey};
 ghost use Rattle.plate_greys.specs.Loading.{Loadable, Loaded};

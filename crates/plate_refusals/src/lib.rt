@@ -1,4 +1,6 @@
 // The conditions that several operations share, and the refusals of the operations on plates: the first condition that is met, else 0.
+#![tactic(auto)]
+
 ghost use Rattle.std.specs.Prelude.{◌≡◌, ◌&&◌, ◌*◌, leb};
 ghost use Rattle.meaning.specs.Plate.{grid_fits, connectivity_fits, greatest_fits, max_extent};
 ghost use Rattle.meaning.specs.Opening.{side_fits};

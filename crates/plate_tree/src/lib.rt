@@ -1,4 +1,6 @@
 // The component tree of a plate, from the plate to the columns of the work space, and the start of a node list from it.
+#![tactic(auto)]
+
 ghost use Rattle.std.specs.Prelude.{◌≡◌};
 ghost use Rattle.plate_tree.specs.PlateTree.{PlateReady, PlateTree};
 ghost use Rattle.plate_tree.specs.Listing.{Started};

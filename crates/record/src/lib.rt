@@ -1,4 +1,6 @@
 // Records: writing one, reading one, cutting one at a limit, the size list of one. Operations that callers use, and that require nothing.
+#![tactic(auto)]
+
 ghost use Rattle.std.specs.Prelude.{◌≡◌, length};
 ghost use Rattle.record_parse.specs.Parse.{read_of};
 ghost use Rattle.record.specs.Writing.{WrittenRecord};

@@ -1,4 +1,6 @@
 // Converting a record to its old or its new form. The fields are passed on as bytes: the new form has 0, 2 and 255 in front of those of the old one.
+#![tactic(auto)]
+
 ghost use Rattle.std.specs.Prelude.{◌≡◌, true, false, ◌∷◌, ◌≤◌, length, drop};
 ghost use Rattle.record_parse.specs.Parse.{read_of};
 ghost use Rattle.record_convert.specs.Converting.{Converted, PassedOn, form_fits};

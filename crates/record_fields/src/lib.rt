@@ -1,5 +1,7 @@
 // The fields of the record of the plate whose tree stands in the work space: measured and written in the new form, compared in either. These functions
 // serve the crates above, whose work space has the tree.
+#![tactic(auto)]
+
 ghost use Rattle.std.specs.Prelude.{◌≡◌, ◌+◌, ◌*◌, ◌≤◌, ◌<◌, length};
 ghost use Rattle.meaning.specs.Sets.{nth};
 ghost use Rattle.meaning.specs.Record.{record_in, record_of};

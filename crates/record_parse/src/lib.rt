@@ -1,4 +1,6 @@
 // The fields of a record taken one after another, each with its refusal, up to 23. The greys that they spell go into the work space.
+#![tactic(auto)]
+
 ghost use Rattle.std.specs.Prelude.{◌+◌, ◌*◌, ◌<◌, ◌≤◌, length};
 ghost use Rattle.meaning.specs.Plate.{max_extent};
 ghost use Rattle.work_columns.specs.Columns.{Room};

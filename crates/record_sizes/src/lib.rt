@@ -1,5 +1,7 @@
 // The size list, the grey held and the darkest grey of the plate whose component tree stands in the work space. These functions serve the operations
 // on records, which build the tree first.
+#![tactic(auto)]
+
 ghost use Rattle.std.specs.Prelude.{◌≡◌, ◌+◌, ◌≤◌, ◌<◌, length};
 ghost use Rattle.meaning.specs.Answers.{over};
 ghost use Rattle.meaning.specs.Cut.{darkest, held};

@@ -1,4 +1,6 @@
 // A record read up to 24: the tree of its plate stands in the work space, or the specification's number says why not.
+#![tactic(auto)]
+
 ghost use Rattle.std.specs.Prelude.{◌≡◌, length};
 ghost use Rattle.meaning.specs.Answers.{over};
 ghost use Rattle.work_columns.specs.Layout.{greys_in};

@@ -1,4 +1,6 @@
 // One field of a record: an unsigned number in groups of seven bits, lowest group first (a varint, LEB128). Read, measure, write, compare.
+#![tactic(auto)]
+
 ghost use Rattle.std.specs.Prelude.{◌≡◌, ◌&&◌, ◌++◌, ◌+◌, ◌≤◌, ◌<◌, ltb, eqb, length, take, drop, get_or};
 ghost use Rattle.meaning.specs.Record.{varint};
 ghost use Rattle.record_varint.specs.Field.{continued, value, field_at, same_at, number_of, refusal_of, reading, comparison};

@@ -1,4 +1,6 @@
 // Demand 3 as code, at one limit: a plate's record, the cut of it and its size list, with the exact bytes passed on.
+#![tactic(auto)]
+
 ghost use Rattle.std.specs.Prelude.{◌≡◌, length};
 ghost use Rattle.record_write_cut_list.specs.WriteCutList.{early_refusal, WrittenCutListed};
 

@@ -1,4 +1,6 @@
 // Test plates from a seed: SPECIFICATION 5. specs/Sequence.antt has the plate and what generating it answers.
+#![tactic(auto)]
+
 ghost use Rattle.std.specs.Prelude.{◌≡◌, ◌*◌, ◌%◌, ◌^◌, ◌≤◌, length};
 ghost use Rattle.meaning.specs.Answers.{over, out_after};
 ghost use Rattle.seeded_plates.specs.Sequence.{next_state, top_eight, greys_from, seeded_plate, seeded_refusal};

@@ -1,4 +1,6 @@
 // Prints the size list of the plate file on standard input: `text_sizelist::size_text` makes the text.
+#![tactic(auto)]
+
 use libc::{STDIN_FILENO, STDOUT_FILENO};
 
 fn main() {

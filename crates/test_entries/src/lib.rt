@@ -1,5 +1,7 @@
 // Lists the nodes of a plate into a list of six entries that it owns, and prints the refusal and the number of nodes, each entry (level, parent, area,
 // anchor) after a bar, and an entry that `node_at` reads. An entry holds 9 before.
+#![tactic(auto)]
+
 use test_case_lines::lists::{print_bar, print_number, print_words};
 
 fn print_node(node: plate_entries::Node) {

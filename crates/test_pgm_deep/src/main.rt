@@ -1,5 +1,7 @@
 // Reads headers of four million bytes of comments and of blanks and prints the answers. A call for each comment, two million deep, would
 // need more stack than a program has.
+#![tactic(auto)]
+
 use libc::STDOUT_FILENO;
 
 const SIZE: usize = 4000000;

@@ -1,4 +1,6 @@
 // The component tree of a plate, left in the work space: the engine by itself, for the benchmarks.
+#![tactic(auto)]
+
 ghost use Rattle.std.specs.Prelude.{length};
 ghost use Rattle.plate_tree.specs.Listing.{Started, node_list_refusal};
 

@@ -18,6 +18,8 @@
 //     header             a file, at (where the header begins)
 //     text               a file: what sizelist prints
 //     ink                greatest, greys: refusal and percentage of each
+#![tactic(auto)]
+
 use libc::{STDIN_FILENO, STDOUT_FILENO};
 use test_case_lines::cases;
 use test_case_runs::{byte_outputs, files, grey_outputs, tables};

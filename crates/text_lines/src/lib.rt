@@ -1,5 +1,7 @@
 // Text: bytes, words and decimal numbers, put one after the other into a lent slice. Each function gives the place after what it put. They
 // serve the crate `text_sizelist`, which knows that there is room; they are not for end users.
+#![tactic(auto)]
+
 ghost use Rattle.std.specs.Prelude.{◌+◌, ◌≤◌, ◌<◌, [], ◌∷◌, length};
 ghost use Rattle.text_lines.specs.Lines.{PutText, decimal, field};
 

@@ -1,4 +1,6 @@
 // The text that the program sizelist prints for a plate. It serves the crate `text_sizelist`, which knows that there is room.
+#![tactic(auto)]
+
 ghost use Rattle.std.specs.Prelude.{◌+◌, ◌*◌, ◌≤◌, ◌<◌, length, ◌≡◌, true};
 ghost use Rattle.meaning.specs.Plate.{greatest_fits};
 ghost use Rattle.meaning.specs.Sets.{gather};

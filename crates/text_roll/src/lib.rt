@@ -1,4 +1,6 @@
 // The text that the program sizelist prints for a roll of plates.
+#![tactic(auto)]
+
 ghost use Rattle.std.specs.Prelude.{◌+◌, ◌≤◌, length};
 ghost use Rattle.text_lines.specs.Lines.{PutText};
 ghost use Rattle.pgm_roll.specs.Roll.{plates_of, roll};

@@ -1,4 +1,6 @@
 // The text that the program sizelist prints for a plate file.
+#![tactic(auto)]
+
 ghost use Rattle.std.specs.Prelude.{◌+◌, ◌*◌, ◌≤◌, ◌<◌, length, ◌≡◌, true};
 ghost use Rattle.meaning.specs.Plate.{greatest_fits};
 ghost use Rattle.meaning.specs.Sets.{gather};

@@ -1,4 +1,6 @@
 // The work space: eight columns of n numbers in one lent slice. These functions serve the crates above; their callers keep within the columns.
+#![tactic(auto)]
+
 ghost use Rattle.std.specs.Prelude.{◌≡◌, ◌++◌, ◌+◌, ◌*◌, ◌<◌, drop, replicate};
 ghost use Rattle.work_columns.specs.Columns.{cell, col, CellStored, Room, Stored};
 ghost use Rattle.work_columns.specs.Layout.{shape_of};
