@@ -1,0 +1,13 @@
+-- `maxtree_values::cut_values` meets its contract. The invariant: the first i nodes have their values in the cut.
+use Prim.Native.Nat.{◌-◌}
+use native.Mathlib.Omega.{arith}
+use Rattle.work_columns.specs.Layout.{greys_in}
+use Rattle.maxtree_columns.proofs.Tree.{attributed_here, few_nodes}
+use Rattle.maxtree_values.proofs.Cuts.{Cutting, cut-done, cutting_climbable, cutting_first, cutting_more}
+use Rattle.maxtree_values.proofs.cut_values.Given as goal
+
+abbrev pub invariant-loop-i : goal.invariant-loop-i
+invariant-loop-i l = Cutting l.g (greys_in l.g.pixels l.initial.w) l.count l.limit l.initial.w l.w l.i
+
+abbrev pub decreases-loop-i : goal.decreases-loop-i
+decreases-loop-i l = l.count - l.i

@@ -1,0 +1,29 @@
+-- The loop goes on where `skip_blanks` used up its turns. The measure is the number of bytes left.
+use mathlib.Core.Path.{refl}
+use Prim.Native.Nat.{◌-◌}
+use native.Mathlib.Omega.{arith}
+use borrow.Author.Rules.{rules}
+use lib.ListN.{length}
+use Rattle.pgm_header.proofs.Places.{Mixing, mixed_past, mixed_paused, paused_on, mixed_unended}
+use Rattle.pgm_header.proofs.Cursor.mix.Goals as goal
+
+pub loop-end-init : goal.loop-end-init
+loop-end-init c = record { within = c.requires; same = refl }
+
+pub skip_blanks-skip-requires : goal.skip_blanks-skip-requires
+skip_blanks-skip-requires c = c.loop-end.invariant.within
+
+pub returns-in-Past : goal.returns-in-Past
+returns-in-Past c = mixed_past c.loop-end.invariant c.skip_blanks-skip.ensures c.skip-1.given.1
+
+pub loop-end-smaller : goal.loop-end-smaller
+loop-end-smaller c =
+    let m = c.loop-end.invariant in
+    let e = c.skip-in-Paused-1.given.1 in
+    omega (arith, paused_on m c.skip_blanks-skip.ensures e, (mixed_paused m c.skip_blanks-skip.ensures e).within)
+
+pub loop-end-preserved : goal.loop-end-preserved
+loop-end-preserved c = mixed_paused c.loop-end.invariant c.skip_blanks-skip.ensures c.skip-in-Paused-1.given.1
+
+pub returns-in-Unended : goal.returns-in-Unended
+returns-in-Unended c = mixed_unended c.loop-end.invariant c.skip_blanks-skip.ensures c.enum_told-1.given.1

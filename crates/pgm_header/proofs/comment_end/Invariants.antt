@@ -1,0 +1,15 @@
+-- The first CR or LF, found by a loop.
+use mathlib.Core.Path.{sym, ap, ◌∙◌}
+use mathlib.Core.Bool.{not}
+use Prim.Native.Nat.{◌-◌}
+use native.Mathlib.Omega.{arith}
+use lib.ListN.{length}
+use Rattle.pgm_header.specs.Grammar.{in_comment}
+use Rattle.pgm_header.proofs.Front.{Passed, passed_first, passed_more, passed_stop, passed_end}
+use Rattle.pgm_header.proofs.comment_end.Given as goal
+
+abbrev pub invariant-loop-i : goal.invariant-loop-i
+invariant-loop-i l = Passed in_comment l.file l.at l.i
+
+abbrev pub decreases-loop-i : goal.decreases-loop-i
+decreases-loop-i l = length l.file - l.i

@@ -1,0 +1,11 @@
+-- The loop that works a number out, digit by digit.
+use Prim.Native.Nat.{◌-◌}
+use native.Mathlib.Omega.{arith}
+use Rattle.pgm_header.proofs.Digits.{Spelling, spelling_first, spelling_small, spelling_within, spelling_digit, spelling_more, spelling_done}
+use Rattle.pgm_header.proofs.digits_value.Given as goal
+
+abbrev pub invariant-loop-i : goal.invariant-loop-i
+invariant-loop-i l = Spelling l.file l.at l.end l.i l.v
+
+abbrev pub decreases-loop-i : goal.decreases-loop-i
+decreases-loop-i l = l.end - l.i

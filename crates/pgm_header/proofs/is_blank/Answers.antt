@@ -1,0 +1,16 @@
+-- A byte is a blank.
+use borrow.Author.Tests.{eq-eqb, ne_eqb}
+use Rattle.pgm_header.specs.Grammar.{blank, line_end}
+use Rattle.pgm_header.proofs.is_blank.Goals as goal
+
+pub returns-then-b-eq32 : goal.returns-then-b-eq32
+unfolding blank
+returns-then-b-eq32 c = rw (eq-eqb _ _ c.if-b-eq32.true)
+
+pub returns-then-b-eq9 : goal.returns-then-b-eq9
+unfolding blank
+returns-then-b-eq9 c = rw (ne_eqb _ _ c.if-b-eq32.false, eq-eqb _ _ c.if-b-eq9.true)
+
+pub returns : goal.returns
+unfolding blank line_end
+returns c = rw (ne_eqb _ _ c.if-b-eq32.false, ne_eqb _ _ c.if-b-eq9.false) c.is_line_end.ensures

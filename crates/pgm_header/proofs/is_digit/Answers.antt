@@ -1,0 +1,12 @@
+-- A byte is a digit.
+use borrow.Author.Tests.{le-leb, lt-leb}
+use Rattle.pgm_header.specs.Grammar.{is_digit}
+use Rattle.pgm_header.proofs.is_digit.Goals as goal
+
+pub returns-then-b-ge48 : goal.returns-then-b-ge48
+unfolding is_digit
+returns-then-b-ge48 c = rw (le-leb _ _ c.if-b-ge48.true)
+
+pub returns-else-b-ge48 : goal.returns-else-b-ge48
+unfolding is_digit
+returns-else-b-ge48 c = rw (lt-leb _ _ c.if-b-ge48.false)

@@ -1,0 +1,15 @@
+-- `pgm_write::put_pairs` meets its contract. The invariant: the two bytes of each of p pixels are put.
+use mathlib.Core.Path.{◌≡◌, refl}
+use Prim.Native.Nat.{◌+◌, ◌-◌, ◌*◌, ◌<◌}
+use native.Mathlib.Omega.{arith}
+use lib.ListN.{length, length-set}
+use Rattle.text_lines.proofs.Pieces.{Putting, putting_done, putting_more}
+use Rattle.pgm_write.specs.Writing.{byte_pairs}
+use Rattle.pgm_write.proofs.Rasters.{byte_pairs_high, byte_pairs-length, byte_pairs_low}
+use Rattle.pgm_write.proofs.put_pairs.Given as goal
+
+abbrev pub invariant-loop-p : goal.invariant-loop-p
+invariant-loop-p l = Putting l.initial.text l.at (byte_pairs l.image) l.text (2 * l.p)
+
+abbrev pub decreases-loop-p : goal.decreases-loop-p
+decreases-loop-p l = l.n - l.p

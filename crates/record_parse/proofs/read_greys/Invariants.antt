@@ -1,0 +1,15 @@
+-- `record_parse::read_greys` meets its contract. The invariant: the greys so far, ahead of what is left, are what the whole gives (`GreysLeft`).
+use mathlib.Core.Path.{◌≡◌, refl}
+use Prim.Native.Nat.{◌-◌}
+use native.Mathlib.Omega.{arith}
+use borrow.Author.Rules.{rules}
+use Rattle.work_columns.proofs.Columns.{frame_room}
+use Rattle.record_parse.proofs.Fields.{Took, took, stopped}
+use Rattle.record_parse.proofs.Greys.{GreysLeft, greys_first, greys_more, greys_stop, greys_done}
+use Rattle.record_parse.proofs.read_greys.Given as goal
+
+abbrev pub invariant-loop-p : goal.invariant-loop-p
+invariant-loop-p l = GreysLeft l.s l.start l.n l.initial.work l.work l.count l.p l.at × (l.last ≡ l.count - 1)
+
+abbrev pub decreases-loop-p : goal.decreases-loop-p
+decreases-loop-p l = l.n - l.p

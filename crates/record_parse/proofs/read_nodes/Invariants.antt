@@ -1,0 +1,12 @@
+-- `record_parse::read_nodes` meets its contract. The invariant: what is left gives what the whole gives (`NodesLeft`).
+use Prim.Native.Nat.{◌-◌}
+use native.Mathlib.Omega.{arith}
+use borrow.Author.Rules.{rules}
+use Rattle.record_parse.proofs.Nodes.{NodesLeft, nodes-first, nodes-more, nodes-stop, nodes-done}
+use Rattle.record_parse.proofs.read_nodes.Given as goal
+
+abbrev pub invariant-loop-i : goal.invariant-loop-i
+invariant-loop-i l = NodesLeft l.greatest l.s l.start l.n l.initial.work l.work l.count l.i l.at
+
+abbrev pub decreases-loop-i : goal.decreases-loop-i
+decreases-loop-i l = l.count - l.i

@@ -1,0 +1,37 @@
+-- `record_sizes::sum_held` meets its contract. The invariant: the sum is the grey held with the nodes from 1 to j - 1.
+use Prim.Native.Nat.{◌-◌}
+use native.Mathlib.Omega.{arith}
+use Rattle.maxtree_columns.proofs.Tree.{few_nodes}
+use Rattle.record_sizes.proofs.Holding.{Holding, holding_done, holding_first, holding_low, holding_more}
+use Rattle.record_sizes.proofs.sum_held.Goals as goal
+
+pub loop-j-init : goal.loop-j-init
+loop-j-init c = holding_first c.requires
+
+pub held_with-sum-requires : goal.held_with-sum-requires
+held_with-sum-requires c = record { attributed_stands = c.requires; j_nonzero = (c.loop-j.invariant.begun, c.loop-j-test.true) }
+
+pub overflow_add-sum : goal.overflow_add-sum
+overflow_add-sum c =
+    omega (
+      arith,
+      holding_low c.requires c.loop-j.invariant,
+      c.held_with-sum.ensures.1,
+      c.loop-j-test.true,
+      few_nodes c.requires.tree,
+      c.requires.tree.room.small,
+    )
+
+pub overflow_add-j : goal.overflow_add-j
+overflow_add-j c =
+    let t = c.requires.tree in
+    omega (arith, few_nodes t, t.room.small, c.loop-j-test.true)
+
+pub loop-j-smaller : goal.loop-j-smaller
+loop-j-smaller c = omega (arith, c.loop-j-test.true)
+
+pub loop-j-preserved : goal.loop-j-preserved
+loop-j-preserved c = holding_more c.requires c.loop-j.invariant c.loop-j-test.true c.held_with-sum.ensures.0
+
+pub returns : goal.returns
+returns c = holding_done c.requires c.loop-j.invariant c.loop-j-test.false

@@ -1,0 +1,18 @@
+-- `record_tree::write_greys` meets its contract. The invariant: the first p greys are written, and the others are as they were.
+use mathlib.Core.Path.{◌≡◌, refl}
+use mathlib.Core.List.{◌++◌}
+use Prim.Native.Nat.{◌-◌, ◌≤◌}
+use native.Mathlib.Omega.{arith}
+use borrow.Author.Rules.{rules}
+use lib.ListN.{length, drop, length-set}
+use Rattle.meaning.specs.Sets.{span, table}
+use Rattle.theory_lists.proofs.Written.{written-more, written_over}
+use Rattle.work_columns.specs.Columns.{col}
+use Rattle.work_columns.specs.Layout.{GREY}
+use Rattle.record_tree.proofs.write_greys.Given as goal
+
+abbrev pub invariant-loop-p : goal.invariant-loop-p
+invariant-loop-p l = (l.p ≤ l.n) × (length l.out ≡ length l.initial.out) × (l.out ≡ table l.p (col GREY l.n l.w) ++ drop l.p l.initial.out)
+
+abbrev pub decreases-loop-p : goal.decreases-loop-p
+decreases-loop-p l = l.n - l.p

@@ -1,0 +1,20 @@
+-- `record_varint::find_end` meets its contract. The loop's invariant: what leads from i on is what is left of what leads from `at` on.
+-- Assumes nothing.
+use mathlib.Core.Path.{◌≡◌}
+use Prim.Native.Nat.{◌+◌, ◌-◌}
+use native.Mathlib.Omega.{arith}
+use native.Mathlib.Numerals.{add-one}
+use borrow.Author.Rules.{rules}
+use lib.ListN.{length, drop}
+use Rattle.record_varint.specs.Field.{continued}
+use Rattle.record_varint.proofs.Position.{continued_here, continued_next, continued-none}
+use Rattle.record_varint.proofs.find_end.Goals as goal
+
+pub returns-then-s-i-lt128 : goal.returns-then-s-i-lt128
+returns-then-s-i-lt128 c = omega (arith, continued_here c.args.s.now c.loop-i.i (omega arith) (omega arith))
+
+pub loop-i-preserved : goal.loop-i-preserved
+loop-i-preserved c = rw add-one (omega (arith, continued_next c.args.s.now c.loop-i.i (omega arith) (omega arith)))
+
+pub returns : goal.returns
+returns c = omega (arith, continued-none c.args.s.now c.loop-i.i (omega arith))

@@ -1,0 +1,10 @@
+-- `seeded_plates::write_greys` meets its contract. The invariant: p greys are written, and p steps are taken.
+use Rattle.std.proofs.Common.{◌-◌, ◌<◌, length, arith}
+use Rattle.seeded_plates.proofs.Generating.{Generating, generating_done, generating_first, generating_more, place_within}
+use Rattle.seeded_plates.proofs.write_greys.Given as goal
+
+abbrev pub invariant-loop-p : goal.invariant-loop-p
+invariant-loop-p l = Generating l.seed l.pixels l.initial.out l.p l.state l.out
+
+abbrev pub decreases-loop-p : goal.decreases-loop-p
+decreases-loop-p l = l.pixels - l.p
