@@ -65,12 +65,8 @@ fn every_grey(greatest: u32) -> Plate {
 
 /// What `pamfile` says of a plate's file on its standard input.
 fn pamfile_line(plate: &Plate) -> String {
-    format!("stdin:\t{}", pamfile_words(plate))
-}
-
-fn pamfile_words(plate: &Plate) -> String {
     let (width, height, greatest) = (plate.width(), plate.height(), plate.greatest());
-    format!("PGM raw, {width} by {height}  maxval {greatest}\n")
+    format!("stdin:\tPGM raw, {width} by {height}  maxval {greatest}\n")
 }
 
 /// A file is read as its plate and written as Netpbm writes it.
@@ -106,6 +102,13 @@ fn written(plate: &Plate) -> Vec<u8> {
     assert_eq!(answer.refusal, 0);
     file.truncate(answer.length);
     file
+}
+
+/// What the tool prints on an input.
+fn answer(words: &str, input: &[u8]) -> Vec<u8> {
+    let output = run_on(&words.split(' ').collect::<Vec<_>>(), input);
+    assert_ok(&output);
+    output.stdout
 }
 
 /// Every command of the tool answers what the wrapper does; its plate files are those of the C function, and keep the
@@ -214,8 +217,8 @@ fn what_netpbm_makes_of_them() {
     }
 }
 
-/// Plates of every greatest grey, in files that are put one after the other, are a roll; cleaned, it is one that the tools
-/// part into the cleaned plates.
+/// Plates of every greatest grey, in files that are put one after the other, are a roll: the tool counts them and takes
+/// out those that the tools part it into.
 #[test]
 fn rolls() {
     if !installed(&["pamfile", "pamsplit"], "what Netpbm makes of rolls") {
@@ -224,35 +227,22 @@ fn rolls() {
     let folder = Folder::new("rolls");
     let plates = GREATESTS.map(|greatest| [rising(greatest), every_grey(greatest)]);
     let plates = plates.as_flattened();
-    let name = |number: usize| format!("image{number:02}");
     for (number, plate) in plates.iter().enumerate() {
-        folder.file(&name(number), &written(plate));
+        folder.file(&format!("image{number:02}"), &written(plate));
     }
-    shell(&folder, "cat image* >job && pamfile -allimages <job >said");
-    let said = |plates: &[Plate]| {
-        let lines = plates.iter().map(pamfile_words).enumerate();
-        let lines = lines.map(|(number, words)| format!("stdin:\tImage {number}:\t{words}"));
-        lines.collect::<String>()
-    };
-    assert_eq!(text(&content(&folder, "said")), said(plates));
+    let line = "cat image* >job && pamfile -allimages <job >said && pamsplit job part%d";
+    shell(&folder, line);
+    let said = plates.iter().map(pamfile_line).enumerate();
+    let said = said.map(|(number, line)| line.replacen(":\t", &format!(":\tImage {number}:\t"), 1));
+    assert_eq!(text(&content(&folder, "said")), said.collect::<String>());
     let job = content(&folder, "job");
     let count = format!("{}\n", plates.len());
     assert_eq!(text(&answer("roll count -", &job)), count);
-
-    let cleaned = plates.iter().map(|plate| {
-        let clean = plate.clean(Side::Light, Connectivity::Four, 2);
-        clean.expect("a clean plate")
-    });
-    let cleaned: Vec<Plate> = cleaned.collect();
-    folder.file("clean", &answer("clean --side light --limit 2 - -", &job));
-    let line = "pamfile -allimages <clean >said && pamsplit clean part%d";
-    shell(&folder, line);
-    assert_eq!(text(&content(&folder, "said")), said(&cleaned));
-    for (number, plate) in cleaned.iter().enumerate() {
+    for (number, plate) in plates.iter().enumerate() {
         let part = content(&folder, &format!("part{number}"));
         assert!(part == written(plate), "{number}");
         let line = format!("roll plate --number {number} - -");
-        assert!(answer(&line, &content(&folder, "clean")) == part);
+        assert!(answer(&line, &job) == part, "{number}");
     }
 }
 

@@ -4,11 +4,17 @@ mod tool_common;
 
 use std::fs::{self, File};
 use std::path::{Path, PathBuf};
-use std::process::Stdio;
+use std::process::{Output, Stdio};
 
 use tool_common::*;
 
 const CLEAN: [&str; 7] = ["clean", "--side", "light", "--limit", "2", "-", "-"];
+
+/// Runs the tool with the words of a line, on standard input.
+fn run_line(line: &str, input: &[u8]) -> Output {
+    let words: Vec<&str> = line.split(' ').collect();
+    run_on(&words, input)
+}
 
 #[test]
 fn the_small_plate() {
@@ -88,6 +94,11 @@ fn three_connectivities() {
     let plate = pairs(50, 90);
     for (connectivity, falling, rising, sizes) in KINDS {
         let clean = pairs(falling, rising);
+        let answer = |command: &str, input: &[u8]| {
+            let output = run_line(command, input);
+            assert_ok(&output);
+            output.stdout
+        };
         let by_kind = |command: &str, files: &str| {
             let line = format!("{command} --connectivity {connectivity} {files}");
             answer(&line, &plate)
@@ -244,7 +255,6 @@ fn other_greatest_greys() {
     assert!(sizes.ends_with("rest 10 89\n"), "{sizes}");
 }
 
-/// By a command on one plate; by those on a roll, where a fault of the only plate is told by the same number.
 #[test]
 fn refusals_of_plate_files() {
     for (file, number) in [
@@ -261,14 +271,8 @@ fn refusals_of_plate_files() {
         (b"P5 1 1 6\n\x07", 28),
         (b"P5 1 1 256\n\x01\x01", 28),
     ] {
-        assert_refused(&run_on(&["maxima", "-", "-"], file), number);
-        let other_as_roll = file.is_empty() || number == 15;
-        if !other_as_roll {
-            for line in ["sizelist -", "roll count -", "roll plate --number 9 - -"] {
-                assert_refused(&run_line(line, file), number);
-            }
-            assert_refused(&run_on(&CLEAN, file), number);
-        }
+        assert_refused(&run_on(&CLEAN, file), number);
+        assert_refused(&run_on(&["sizelist", "-"], file), number);
     }
 }
 
@@ -355,7 +359,7 @@ fn other_formats() {
         ),
     ] {
         let line = format!("standard input: refused 10: the input {what}");
-        assert_says(&run_on(&["nodes", "-"], input), 1, &line);
+        assert_says(&run_on(&["sizelist", "-"], input), 1, &line);
     }
 }
 
@@ -363,15 +367,7 @@ fn other_formats() {
 fn help_and_version() {
     let clean =
         "  livukoe clean --side light|dark --limit N [--connectivity 4|6|8] IN.pgm OUT.pgm\n";
-    for words in [
-        &["--help"][..],
-        &["help"],
-        &["-h"],
-        &["clean", "--help"],
-        &["roll", "--help"],
-        &["roll", "-h"],
-        &["roll", "plate", "-h"],
-    ] {
+    for words in [&["--help"][..], &["help"], &["-h"], &["clean", "--help"]] {
         let help = run(words, &[]);
         assert_ok(&help);
         let help = text(&help.stdout);
@@ -593,11 +589,11 @@ fn refusals_of_plate_files_with_figures() {
         assert_tells(command, &file, wanted);
     }
     let roll = "15: a roll of several plates: 23 bytes after the first (4 x 3) begin with P5; \
-                livukoe roll plate takes one out";
+                pamsplit parts them";
     assert_tells("maxima", &[SMALL, SMALL].concat(), roll);
     let wide = b"P5 1 1 1000\n\x03\xe8";
     let roll = "15: a roll of several plates: 14 bytes after the first (1 x 1) begin with P5; \
-                livukoe roll plate takes one out";
+                pamsplit parts them";
     assert_tells("maxima", &[wide, &wide[..]].concat(), roll);
     let above = "28: pixel 4 (row 1, column 1) is 259, above the greatest grey 258";
     let greys = b"\x01\x02\x00\xff\x00\x00\x01\x01\x01\x03\x02\x00";
@@ -625,6 +621,13 @@ fn refusals_of_sizes() {
         let output = run_line(&format!("seed --seed 1 --size {size} -"), b"");
         assert_says(&output, 1, &format!("--size {size}: refused 2: {words}"));
     }
+}
+
+/// A command on standard input is refused in these words.
+fn assert_tells(command: &str, input: &[u8], wanted: &str) {
+    let output = run_line(&format!("{command} - -"), input);
+    let line = format!("standard input: refused {wanted}");
+    assert_says(&output, 1, &line);
 }
 
 #[test]
@@ -682,7 +685,7 @@ fn refusals_of_the_new_form_with_figures() {
 }
 
 /// Command lines, and what is wrong with them.
-const SLIPS: [(&str, &str); 75] = [
+const SLIPS: [(&str, &str); 62] = [
     ("wash", "there is no command wash"),
     ("clean", "clean lacks --side light or --side dark"),
     ("clean a b", "clean lacks --side light or --side dark"),
@@ -832,40 +835,6 @@ const SLIPS: [(&str, &str); 75] = [
         "seed takes no --limit",
     ),
     ("maxima --size 4x3 a b", "maxima takes no --size"),
-    ("roll", "roll lacks count or plate"),
-    (
-        "roll wash a",
-        "there is no command roll wash; write roll count or roll plate",
-    ),
-    (
-        "roll --number 1 plate a b",
-        "there is no command roll --number; write roll count or roll plate",
-    ),
-    (
-        "roll \x1b[2J",
-        "there is no command roll \\u{1b}[2J; write roll count or roll plate",
-    ),
-    ("count a", "there is no command count"),
-    ("roll count", "roll count takes IN, and 0 files are given"),
-    (
-        "roll count a b",
-        "roll count takes IN, and 2 files are given",
-    ),
-    ("roll count --force a", "roll count takes no --force"),
-    ("roll count --number 1 a", "roll count takes no --number"),
-    ("roll plate a b", "roll plate lacks --number"),
-    (
-        "roll plate --number -1 a b",
-        "the number -1 is not a whole number",
-    ),
-    (
-        "roll plate --number 1 --number=1 a b",
-        "--number is given twice",
-    ),
-    (
-        "roll plate --number 1 a",
-        "roll plate takes IN and OUT, and 1 file is given",
-    ),
 ];
 
 /// A slip is told in one line, which says where there is more.
@@ -873,8 +842,6 @@ const SLIPS: [(&str, &str); 75] = [
 fn bad_usage() {
     let none = "no command is given; see livukoe --help";
     assert_says(&run(&[], &[]), 2, none);
-    let one_word = "there is no command roll count; see livukoe --help";
-    assert_says(&run(&["roll count", "a"], &[]), 2, one_word);
     for (line, wanted) in SLIPS {
         let words: Vec<&str> = line.split(' ').collect();
         let wanted = format!("{wanted}; see livukoe --help");

@@ -1,5 +1,4 @@
-//! The command-line tool on rolls: counting, taking a plate out, cleaning and listing all plates, and what it says of
-//! damaged ones.
+//! The command-line tool on rolls: counting, taking a plate out, and what it says of damaged ones.
 
 mod tool_common;
 
@@ -19,12 +18,6 @@ fn plates() -> Vec<Vec<u8>> {
     let terrain = picture("terrain", 31, 17).to_pgm().expect("a file");
     let fine = fine_picture("noise", 13, 29).to_pgm().expect("a file");
     vec![SMALL.to_vec(), LONG.to_vec(), terrain, fine, SMALL.to_vec()]
-}
-
-/// What a line answers on each plate by itself, one after the other.
-fn one_by_one(line: &str, plates: &[Vec<u8>]) -> Vec<u8> {
-    let answers = plates.iter().map(|plate| answer(line, plate));
-    answers.collect::<Vec<_>>().concat()
 }
 
 #[test]
@@ -52,70 +45,6 @@ fn one_plate() {
     let words = ["roll", "plate", "--number", "1"];
     assert_ok(&run(&words, &[&input, &output]));
     assert_eq!(fs::read(output).expect("OUT"), WRITTEN);
-}
-
-/// One ticket on all plates of a roll is what it is on each of them by itself.
-#[test]
-fn cleaned_in_one_go() {
-    let plates = plates();
-    for count in 0..=plates.len() {
-        let (plates, roll) = (&plates[..count], plates[..count].concat());
-        for ticket in [
-            "--side light --limit 2",
-            "--side dark --limit 9 --connectivity 8",
-            "--side light --limit 5 --connectivity 6",
-        ] {
-            let line = format!("clean {ticket} - -");
-            let cleaned = run_line(&line, &roll).stdout;
-            assert_eq!(cleaned, one_by_one(&line, plates), "{count}, {ticket}");
-        }
-        for line in ["sizelist -", "sizelist --connectivity 8 -"] {
-            let listed = run_line(line, &roll).stdout;
-            assert_eq!(text(&listed), text(&one_by_one(line, plates)), "{count}");
-        }
-    }
-}
-
-/// From file to file, also where OUT is IN.
-#[test]
-fn cleaned_in_place() {
-    let folder = Folder::new("roll_in_place");
-    let roll = plates().concat();
-    let input = folder.file("job.pgm", &roll);
-    let clean = ["clean", "--side", "light", "--limit", "2"];
-    let wanted = answer("clean --side light --limit 2 - -", &roll);
-    assert_ok(&run(&clean, &[&input, &folder.path("out.pgm")]));
-    assert_eq!(fs::read(folder.path("out.pgm")).expect("OUT"), wanted);
-    // a file of two names is written in place
-    let (long, other) = (
-        folder.file("long.pgm", &[7; 9_999]),
-        folder.path("other.pgm"),
-    );
-    fs::hard_link(&long, &other).expect("a second name");
-    assert_ok(&run(&clean, &[&input, &long]));
-    assert_eq!(fs::read(&other).expect("OUT"), wanted);
-    assert_ok(&run(&clean, &[&input, &input]));
-    assert_eq!(fs::read(&input).expect("OUT"), wanted);
-    let names = ["job.pgm", "long.pgm", "other.pgm", "out.pgm"];
-    assert_eq!(folder.names(), names);
-}
-
-/// It is cleaned to the empty roll, and said to be one.
-#[test]
-fn the_empty_roll() {
-    let folder = Folder::new("empty_roll");
-    let (input, output) = (folder.file("job.pgm", b""), folder.file("out.pgm", SMALL));
-    let clean = ["clean", "--side", "light", "--limit", "2"];
-    let note = "job.pgm: a roll of no plates";
-    assert_says_of(&run(&clean, &[&input, &output]), 0, note);
-    assert_eq!(fs::read(&output).expect("OUT"), b"");
-    assert_says_of(&run(&clean, &[&input, &folder.path("new.pgm")]), 0, note);
-    assert_eq!(fs::read(folder.path("new.pgm")).expect("OUT"), b"");
-    let note = "standard input: a roll of no plates";
-    assert_says(&run_line("clean --side 1 --limit 0 - -", b""), 0, note);
-    assert_says(&run_line("sizelist -", b""), 0, note);
-    let none = "25: the number 0 is not below the 0 plates";
-    assert_tells("roll plate --number 0", b"", none);
 }
 
 /// What stands after two sound plates, of 23 and of 29 bytes, and how the roll is refused.
@@ -175,7 +104,7 @@ const FAULTS: [(&[u8], &str); 12] = [
     ),
 ];
 
-/// A faulty plate refuses the whole roll, by every command and whatever the limit: nothing is printed, and OUT is as it
+/// A faulty plate refuses the whole roll, by both commands and whatever the number: nothing is printed, and OUT is as it
 /// was.
 #[test]
 fn faulty_plates() {
@@ -183,21 +112,15 @@ fn faulty_plates() {
     let (input, output) = (folder.path("job.pgm"), folder.file("out.pgm", b"as it was"));
     for (after, wanted) in FAULTS {
         let roll = [SMALL, LONG, after].concat();
-        for command in [
-            "clean --side light --limit 2",
-            "clean --side light --limit 0",
-            "roll plate --number 0",
-            "roll plate --number 7",
-        ] {
+        for command in ["roll plate --number 0", "roll plate --number 7"] {
             assert_tells(command, &roll, wanted);
         }
         let line = format!("standard input: refused {wanted}");
         assert_says(&run_line("roll count -", &roll), 1, &line);
-        assert_says(&run_line("sizelist -", &roll), 1, &line);
         fs::write(&input, &roll).expect("IN");
-        let clean = ["clean", "--side", "light", "--limit", "2"];
+        let words = ["roll", "plate", "--number", "0"];
         let line = format!("job.pgm: refused {wanted}");
-        assert_says_of(&run(&clean, &[&input, &output]), 1, &line);
+        assert_says_of(&run(&words, &[&input, &output]), 1, &line);
         assert_eq!(fs::read(&output).expect("OUT"), b"as it was");
     }
     assert_eq!(folder.names(), ["job.pgm", "out.pgm"]);
@@ -206,7 +129,6 @@ fn faulty_plates() {
 /// A fault of the first plate is told as that of a plate file is, but for what is left over.
 #[test]
 fn faults_of_the_first_plate() {
-    let clean = "clean --side light --limit 2";
     for (file, wanted) in [
         (&b"P5 2 3 255\n\x07"[..], "14: 1 byte for 6 pixels (2 x 3)"),
         (
@@ -230,28 +152,8 @@ fn faults_of_the_first_plate() {
             "10: 1 byte left over after plate 0, at byte 12; another plate would begin with P5",
         ),
     ] {
-        assert_tells(clean, file, wanted);
+        assert_tells("roll plate --number 0", file, wanted);
     }
-}
-
-/// The limit must fit every plate; the first that it does not fit is named where there are others.
-#[test]
-fn limits() {
-    let roll = plates().concat();
-    let clean = |limit: &str| format!("clean --side dark --limit {limit}");
-    let small = "4: the limit 10 is above the 9 pixels of plate 1 (3 x 3)";
-    assert_tells(&clean("10"), &roll, small);
-    let first = "4: the limit 99999999999 is above the 12 pixels of plate 0 (4 x 3)";
-    assert_tells(&clean("99999999999"), &roll, first);
-    assert_tells(&clean("0"), &roll, "4: the limit is 0; the least is 1");
-    let alone = "4: the limit 10 is above the 9 pixels (3 x 3)";
-    assert_tells(&clean("10"), LONG, alone);
-    let folder = Folder::new("roll_limits");
-    let (input, output) = (folder.file("job.pgm", &roll), folder.path("out.pgm"));
-    let words = ["clean", "--side", "dark", "--limit", "10"];
-    let line = "job.pgm: refused 4: the limit 10 is above the 9 pixels of plate 1 (3 x 3)";
-    assert_says_of(&run(&words, &[&input, &output]), 1, line);
-    assert_eq!(folder.names(), ["job.pgm"]);
 }
 
 #[test]
@@ -269,6 +171,8 @@ fn numbers_beyond_the_roll() {
     }
     let wanted = "25: the number 1 is not below the 1 plate";
     assert_tells("roll plate --number 1", SMALL, wanted);
+    let none = "25: the number 0 is not below the 0 plates";
+    assert_tells("roll plate --number 0", b"", none);
 }
 
 /// The README's lines on rolls, as they are written there.
@@ -288,8 +192,9 @@ fn the_job_of_the_readme() {
     assert_ok(&output);
     assert_eq!(text(&output.stdout), "3\n");
     let content = |name: &str| fs::read(folder.path(name)).expect("a file");
+    assert_eq!(content("second.pgm"), content("sheet2.pgm"));
     let wanted = answer("clean --side light --limit 17 - -", &content("sheet2.pgm"));
-    assert_eq!(content("second.pgm"), wanted);
+    assert_eq!(content("clean.pgm"), wanted);
 }
 
 /// Many small plates: the time is that of their bytes.
@@ -299,15 +204,12 @@ fn many_plates() {
     let roll = b"P5\n1 1\n255\n\x07".repeat(MANY);
     let folder = Folder::new("many_plates");
     let input = folder.file("job.pgm", &roll);
-    let name = input.to_str().expect("a name");
-    let clean = run(&["clean", "--side", "1", "--limit", "1", name, "-"], &[]);
-    assert_ok(&clean);
-    assert!(clean.stdout == roll);
-    let sizes = run(&["sizelist", name], &[]);
-    assert_ok(&sizes);
-    assert!(text(&sizes.stdout) == "size 1 1 4 1\nheld 0\nrest 7 97\n".repeat(MANY));
-    let count = run(&["roll", "count", name], &[]);
+    let count = run(&["roll", "count"], &[&input]);
     assert_eq!(text(&count.stdout), format!("{MANY}\n"));
+    let last = (MANY - 1).to_string();
+    let name = input.to_str().expect("a name");
+    let plate = run(&["roll", "plate", "--number", &last, name, "-"], &[]);
+    assert_eq!(plate.stdout, b"P5\n1 1\n255\n\x07");
 }
 
 /// A roll may have more bytes than a plate file.
@@ -325,24 +227,93 @@ fn long_rolls() {
     fs::remove_file(path).expect("removed");
 }
 
-/// Where there is not enough memory for the roll, or for the work on its largest plate, nothing is written.
+/// Where there is not enough memory for the roll, or for its plate, nothing is written.
 #[test]
 fn no_memory() {
     let folder = Folder::new("roll_memory");
-    let large = picture("flat", 4096, 2048).to_pgm().expect("a file");
+    let large = picture("flat", 4096, 4096).to_pgm().expect("a file");
     let input = folder.file("job.pgm", &[SMALL, &large].concat());
     let output = folder.file("out.pgm", b"as it was");
     for (kibibytes, out) in [
         (20_000, Path::new("-")),
-        (100_000, Path::new("-")),
-        (100_000, &output),
+        (40_000, Path::new("-")),
+        (40_000, &output),
     ] {
         let line = format!("ulimit -v {kibibytes}; \"$@\"");
         let files = [&input, out].map(|path| path.to_str().expect("a name"));
-        let words = [&["clean", "--side", "1", "--limit", "2"][..], &files].concat();
+        let words = [&["roll", "plate", "--number", "1"][..], &files].concat();
         let run = by_shell(&line, &words).output().expect("a run");
         assert_says(&run, 3, "there is not enough memory");
     }
     assert_eq!(fs::read(&output).expect("OUT"), b"as it was");
     assert_eq!(folder.names(), ["job.pgm", "out.pgm"]);
+}
+
+/// Help is there for the commands of two words, and where the second is left out.
+#[test]
+fn help() {
+    let wanted = answer("help", b"");
+    for line in [
+        "roll --help",
+        "roll -h",
+        "roll count -h",
+        "roll plate --help",
+    ] {
+        assert_eq!(text(&answer(line, b"")), text(&wanted), "{line}");
+    }
+    for line in [
+        "  livukoe roll count IN.pgm\n",
+        "  livukoe roll plate --number K IN.pgm OUT.pgm\n",
+    ] {
+        assert!(text(&wanted).contains(line), "{line}");
+    }
+}
+
+/// Command lines, and what is wrong with them.
+const SLIPS: [(&str, &str); 13] = [
+    ("roll", "roll lacks count or plate"),
+    (
+        "roll wash a",
+        "there is no command roll wash; write roll count or roll plate",
+    ),
+    (
+        "roll --number 1 plate a b",
+        "there is no command roll --number; write roll count or roll plate",
+    ),
+    (
+        "roll \x1b[2J",
+        "there is no command roll \\u{1b}[2J; write roll count or roll plate",
+    ),
+    ("count a", "there is no command count"),
+    ("roll count", "roll count takes IN, and 0 files are given"),
+    (
+        "roll count a b",
+        "roll count takes IN, and 2 files are given",
+    ),
+    ("roll count --force a", "roll count takes no --force"),
+    ("roll count --number 1 a", "roll count takes no --number"),
+    ("roll plate a b", "roll plate lacks --number"),
+    (
+        "roll plate --number -1 a b",
+        "the number -1 is not a whole number",
+    ),
+    (
+        "roll plate --number 1 --number=1 a b",
+        "--number is given twice",
+    ),
+    (
+        "roll plate --number 1 a",
+        "roll plate takes IN and OUT, and 1 file is given",
+    ),
+];
+
+/// A slip is told in one line, which says where there is more.
+#[test]
+fn bad_usage() {
+    let one_word = "there is no command roll count; see livukoe --help";
+    assert_says(&run(&["roll count", "a"], &[]), 2, one_word);
+    for (line, wanted) in SLIPS {
+        let wanted = format!("{wanted}; see livukoe --help");
+        assert_says(&run_line(line, b""), 2, &wanted);
+    }
 }

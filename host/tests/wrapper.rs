@@ -4,8 +4,7 @@ mod common;
 
 use common::{Chance, Seen};
 use livukoe::{
-    ink_percentage, lent, Connectivity, Joint, Plate, PlateFile, Record, RecordForm, Refusal, Roll,
-    Side, WorkSpace,
+    ink_percentage, lent, Connectivity, Joint, Plate, Record, RecordForm, Refusal, Side, WorkSpace,
 };
 
 fn small() -> Plate {
@@ -246,21 +245,20 @@ fn a_plate_file_without_room() {
     assert_eq!(&room, b"P5\n4 3\n255");
 }
 
-/// The texts of the size lists of a roll are what the second program prints, refusals included.
+/// The text of a size list is what the second program prints, refusals included.
 #[test]
 fn the_text_of_sizelist() {
     let mut chance = Chance::new(14);
-    let list = |plate: PlateFile| plate.plate()?.record(Connectivity::Four)?.sizes();
     for _ in 0..20_000 {
-        let plates = chance.below(4);
-        let mut file: Vec<u8> = (0..plates).flat_map(|_| chance.plate(9).file()).collect();
+        let mut file = chance.plate(9).file();
         if chance.one_in(4) {
             chance.damage(&mut file);
         }
-        let roll = Roll::from_bytes(&file).plates();
-        let lists: Result<Vec<_>, Refusal> = roll.map(|plate| list(plate?)).collect();
-        let text = match lists {
-            Ok(lists) => lists.iter().map(|list| list.to_string()).collect(),
+        let list = Plate::from_pgm(&file)
+            .and_then(|plate| plate.record(Connectivity::Four))
+            .and_then(|record| record.sizes());
+        let text = match list {
+            Ok(list) => list.to_string(),
             Err(refusal) => format!("refused {}\n", refusal.number()),
         };
         assert_eq!(text, reference::sizelist_text(&file));

@@ -10,7 +10,6 @@ mod joint;
 mod netpbm;
 mod new_form;
 mod plates;
-mod rolls;
 mod seeded;
 mod sides;
 mod touch;
@@ -42,7 +41,6 @@ pub fn cases_text() -> String {
     conversion::cases(&mut cases);
     written::cases(&mut cases);
     seeded::cases(&mut cases);
-    rolls::cases(&mut cases);
     let mut lines: Vec<String> = cases.iter().map(Case::line).collect();
     let mut seen = BTreeSet::new();
     lines.retain(|line| seen.insert(line.clone()));

@@ -1,5 +1,5 @@
-//! `reference sizelist` prints sizelist's text for the roll on standard input,
-//! `reference cases` the cases of the program `test_vectors`, `reference
+//! `reference sizelist` prints sizelist's text for the plate file on standard
+//! input, `reference cases` the cases of the program `test_vectors`, `reference
 //! vectors` what that program prints for the cases on standard input, and
 //! `reference deep` what the program `test_pgm_deep` prints.
 
@@ -16,7 +16,7 @@ fn main() -> ExitCode {
             input().map(|bytes| reference::vectors_text(&String::from_utf8_lossy(&bytes)))
         }
         _ => {
-            eprintln!("usage: reference sizelist < roll.pgm | vectors < cases | cases | deep");
+            eprintln!("usage: reference sizelist < plate.pgm | vectors < cases | cases | deep");
             return ExitCode::from(2);
         }
     };

@@ -3,7 +3,7 @@
 use crate::grid::Grid;
 use crate::ink::ink_percentage;
 use crate::nodes::nodes_of;
-use crate::roll::{plates_of, RollPlate};
+use crate::pgm::read_pgm;
 use crate::sizes::sizes_of;
 
 /// The greatest input, in bytes.
@@ -18,16 +18,13 @@ pub fn sizelist_text(input: &[u8]) -> String {
     if input.len() > INPUT_BYTES {
         return refused_text(6);
     }
-    match plates_of(input) {
-        Err(refusal) => refused_text(refusal),
-        Ok(plates) if plates.iter().any(is_too_large) => refused_text(5),
-        Ok(plates) => plates.iter().map(listed_text).collect(),
+    let mut greys = [0u16; MOST_PIXELS];
+    let head = read_pgm(input, &mut greys);
+    if head.refusal != 0 {
+        return refused_text(head.refusal);
     }
-}
-
-/// Has the plate more pixels than the program holds?
-fn is_too_large(plate: &RollPlate) -> bool {
-    plate.greys.len() > MOST_PIXELS
+    let grid = Grid::new(head.width, head.height, CONNECTIVITY);
+    listed_text(&grid, &greys[..grid.pixels()], head.greatest)
 }
 
 /// The text for a refusal.
@@ -36,10 +33,9 @@ fn refused_text(refusal: u32) -> String {
 }
 
 /// The text for a plate.
-fn listed_text(plate: &RollPlate) -> String {
-    let grid = Grid::new(plate.head.width, plate.head.height, CONNECTIVITY);
-    let nodes = nodes_of(&grid, &plate.greys);
-    let sizes = sizes_of(&grid, &plate.greys, &nodes);
+fn listed_text(grid: &Grid, plate: &[u16], greatest: u32) -> String {
+    let nodes = nodes_of(grid, plate);
+    let sizes = sizes_of(grid, plate, &nodes);
     let mut text = format!(
         "size {} {} {} {}\n",
         grid.width,
@@ -53,6 +49,6 @@ fn listed_text(plate: &RollPlate) -> String {
         }
     }
     text += &format!("held {}\n", sizes.held);
-    let ink = ink_percentage(sizes.darkest, plate.head.greatest).percentage;
+    let ink = ink_percentage(sizes.darkest, greatest).percentage;
     text + &format!("rest {} {}\n", sizes.darkest, ink)
 }

@@ -18,9 +18,6 @@
 //! - `sizes`: a record, `counts`, `losses`, `work`
 //! - `old`, `new`: a record, `out`, `work`; it is converted to that form
 //! - `file`: a file, `out`
-//! - `count`: a file; the number of plates of the roll
-//! - `plate`: a file, `number`, `out`; the plate of that number in the roll
-//! - `place`: a file, `at` (where the plate begins)
 //! - `pgm`: a plate without `connectivity`, `out`; its file is written
 //! - `seeded`: `seed`, `width`, `height`, `out`; the plate of the seed
 //! - `header`: a file, `at` (where the header begins)
@@ -52,9 +49,6 @@ fn answer(case: &Case) -> String {
         "old" => converted(case, to_old_form),
         "new" => converted(case, to_new_form),
         "file" => file(case),
-        "count" => count(case),
-        "plate" => plate(case),
-        "place" => place(case),
         "pgm" => pgm(case),
         "seeded" => seeded(case),
         "header" => header(case),
@@ -220,39 +214,11 @@ fn sizes(case: &Case) -> String {
 fn file(case: &Case) -> String {
     let mut out = case.lent("out", GREY);
     let head = read_pgm(&case.bytes(), &mut out);
-    with_plate(head, &out)
-}
-
-/// The answer of reading a plate, and what it left.
-fn with_plate(head: PlateHead, out: &[u16]) -> String {
     let said = format!(
         " {} {} {} {}",
         head.refusal, head.width, head.height, head.greatest
     );
-    said + &barred(out)
-}
-
-/// Counting the plates of a roll.
-fn count(case: &Case) -> String {
-    let answer = roll_count(&case.bytes());
-    format!(" {} {}", answer.refusal, answer.count)
-}
-
-/// Reading the plate of a number out of a roll.
-fn plate(case: &Case) -> String {
-    let mut out = case.lent("out", GREY);
-    let number = case.number("number") as usize;
-    let head = roll_plate(&case.bytes(), number, &mut out);
-    with_plate(head, &out)
-}
-
-/// Judging the plate that begins at a place.
-fn place(case: &Case) -> String {
-    let plate = plate_at(&case.bytes(), case.number("at") as usize);
-    format!(
-        " {} {} {} {} {} {}",
-        plate.refusal, plate.width, plate.height, plate.greatest, plate.raster, plate.end
-    )
+    said + &barred(&out)
 }
 
 /// Writing a plate file.

@@ -1,3 +1,3 @@
 -- Flooding: the invariant of the machine, and what its functions ask and leave.
 pub mod Machine
-pub mod Contracts
+pub mod Functions

@@ -2,7 +2,7 @@
 #![tactic(auto)]
 
 ghost use Rattle.std.specs.Prelude.{◌≡◌, ◌+◌, ◌*◌, ◌<◌};
-ghost use Rattle.flood_laws.specs.Contracts.{Looking, Toward, NewLevel, Looked, LookedIn, UpperRow, LowerRow, Visited};
+ghost use Rattle.flood_laws.specs.Functions.{Looking, Toward, NewLevel, Looked, LookedIn, UpperRow, LowerRow, Visited};
 
 use work_columns::{NAME, OWN, PixelGrid, get, get_pair};
 

@@ -1,11 +1,7 @@
 -- A header step by step: what a step's answer says of the grammar, where it went on and where it stopped.
 use mathlib.Core.Path.{◌≡◌, refl, sym, ap, ◌∙◌}
-use mathlib.Core.Logic.{◌⊎◌, ⊎_elim}
 use mathlib.Core.List.{List, [], ◌∷◌}
 use Prim.Native.Nat.{ℕ, ◌≤◌}
-use native.Mathlib.Omega.{arith}
-use types.Run.{OneOf}
-use denote.Enum.Declared.{tag_of}
 use lib.ListN.{length, drop}
 use Rattle.pgm_header.specs.Grammar.{
   Token,
@@ -29,36 +25,29 @@ use Rattle.pgm_header.specs.declared.Cursor.{Cursor}
 use Rattle.pgm_header.specs.declared.HeaderFault.{HeaderFault}
 use Rattle.pgm_header.specs.declared.HeaderStep.{HeaderStep}
 use Rattle.pgm_header.specs.declared.HeaderStep.TheVariants.{Number, Gap, Faulty}
-use Rattle.pgm_header.specs.contracts.HeaderStep.{the_type}
 
--- the tags of the answers that are no gap, and of those that are no number
+-- the answers that are no gap, and those that are no number
 abbrev pub NoGap : HeaderStep → Type 0
-NoGap r = OneOf (0 ∷ 2 ∷ []) (tag_of the_type r)
+NoGap r = (c : Cursor) → r ≡ Gap c → ⊥
 
 abbrev pub NoNumber : HeaderStep → Type 0
-NoNumber r = OneOf (1 ∷ 2 ∷ []) (tag_of the_type r)
-
-gap_tag : {X : Type 0} (c : Cursor) → NoGap (Gap c) → X
-gap_tag c n = absurd (⊎_elim (λ (z : ◌≡◌ {A = ℕ} 1 0). omega arith) (λ (z : ◌≡◌ {A = ℕ} 1 2). omega arith) n)
-
-number_tag : {X : Type 0} (v : ℕ) (c : Cursor) → NoNumber (Number v c) → X
-number_tag v c n = absurd (⊎_elim (λ (z : ◌≡◌ {A = ℕ} 0 1). omega arith) (λ (z : ◌≡◌ {A = ℕ} 0 2). omega arith) n)
+NoNumber r = (v : ℕ) (c : Cursor) → r ≡ Number v c → ⊥
 
 -- ---- a step that stopped
 
 module _ (file : List ℕ) where
   stays : (r : HeaderStep) (next : List ℕ → Token) → NoGap r → step_of file r ≡ after_gap (step_of file r) next
   stays (Number v c) next n = refl
-  stays (Gap c) next n = gap_tag c n
+  stays (Gap c) next n = absurd (n c refl)
   stays (Faulty f) next n = refl
 
   no_gap : (r : HeaderStep) (next : List ℕ → ParsedHeader) → NoGap r → on_gap (step_of file r) next ≡ faulty (step_fault r)
   no_gap (Number v c) next n = refl
-  no_gap (Gap c) next n = gap_tag c n
+  no_gap (Gap c) next n = absurd (n c refl)
   no_gap (Faulty f) next n = refl
 
   no_number : (r : HeaderStep) (next : ℕ → List ℕ → ParsedHeader) → NoNumber r → on_number (step_of file r) next ≡ faulty (step_fault r)
-  no_number (Number v c) next n = number_tag v c n
+  no_number (Number v c) next n = absurd (n v c refl)
   no_number (Gap c) next n = refl
   no_number (Faulty f) next n = refl
 
@@ -109,8 +98,8 @@ module _ {file : List ℕ} {p : ParsedHeader} {t : Token} {r : HeaderStep} where
     pub gap_on : {c : Cursor} → r ≡ Gap c → p ≡ next (drop c.at file)
     gap_on {c} f = let k' : Stepped file t (Gap c) = rw f at k in e ∙ sym (ap (λ (u : Token). on_gap u next) k'.same)
 
-    pub gap_off : (f : HeaderFault) → NoGap r → fault_number f ≡ step_fault r → (faulty (fault_number f) ≡ p) × Unit {0}
-    gap_off f n is = (ap faulty is ∙ sym (no_gap file r next n) ∙ ap (λ (u : Token). on_gap u next) k.same ∙ sym e, tt)
+    pub gap_off : (f : HeaderFault) → NoGap r → fault_number f ≡ step_fault r → faulty (fault_number f) ≡ p
+    gap_off f n is = ap faulty is ∙ sym (no_gap file r next n) ∙ ap (λ (u : Token). on_gap u next) k.same ∙ sym e
 
   module _ (next : ℕ → List ℕ → ParsedHeader) (e : p ≡ on_number t next) (k : Stepped file t r) where
     pub number_on : {v : ℕ} {c : Cursor} → r ≡ Number v c → p ≡ next v (drop c.at file)
@@ -118,8 +107,8 @@ module _ {file : List ℕ} {p : ParsedHeader} {t : Token} {r : HeaderStep} where
         let k' : Stepped file t (Number v c) = rw f at k in
         e ∙ sym (ap (λ (u : Token). on_number u next) k'.same)
 
-    pub number_off : (f : HeaderFault) → NoNumber r → fault_number f ≡ step_fault r → (faulty (fault_number f) ≡ p) × Unit {0}
-    number_off f n is = (ap faulty is ∙ sym (no_number file r next n) ∙ ap (λ (u : Token). on_number u next) k.same ∙ sym e, tt)
+    pub number_off : (f : HeaderFault) → NoNumber r → fault_number f ≡ step_fault r → faulty (fault_number f) ≡ p
+    number_off f n is = ap faulty is ∙ sym (no_number file r next n) ∙ ap (λ (u : Token). on_number u next) k.same ∙ sym e
 
   -- after the last blank
   pub header_ends : (w h g : ℕ) {c : Cursor} → p ≡ on_gap t (sound w h g) → Stepped file t r → r ≡ Gap c

@@ -1,4 +1,3 @@
 -- The node list as one list of node entries.
 pub mod Lists
 pub mod Results
-pub mod Lent

@@ -1,5 +1,4 @@
-// The node list as one lent list of node entries. Few functions see the list: `fill` and `node_entries` write it, `node_at` reads it; their proofs are
-// by hand.
+// The node list as one lent list of node entries: `fill` and `node_entries` write it, `node_at` reads it.
 #![tactic(auto)]
 
 ghost use Rattle.std.specs.Prelude.{◌≡◌, ◌++◌, ◌*◌, ◌<◌, eqb, drop, get_or, replicate};

@@ -1,15 +1,11 @@
 -- Reading a record up to 24: from what parsing finds to the tree in the work space, and what the work space is when an operation gives up.
 use mathlib.Core.Path.{◌≡◌, refl, sym, ap, ◌∙◌}
 use mathlib.Core.Bool.{Bool, true, false}
-use mathlib.Core.Logic.{◌⊎◌, ⊎_elim}
-use mathlib.Core.List.{List, [], ◌∷◌}
+use mathlib.Core.List.{List}
 use Prim.Native.Nat.{ℕ, ◌*◌, ◌≤◌}
 use native.Mathlib.Omega.{arith}
 use lib.ListN.{length}
-use types.Run.{OneOf}
-use denote.Enum.Declared.{tag_of}
 use Rattle.record_parse.specs.declared.Parse.{Parse}
-use Rattle.record_parse.specs.contracts.Parse.{the_type}
 use Rattle.record_tree.specs.declared.Found.{Found}
 use Rattle.record_tree.specs.declared.Found.TheVariants.{Early, Late, Tree}
 use Rattle.meaning.specs.Plate.{Plate, max_pixels}
@@ -29,17 +25,11 @@ use Rattle.record_tree.specs.Found.{Clearable, FoundIs, unspelt_of}
 
 -- ---- a record that is no plate's
 
--- the tags of the answers that are no plate
-abbrev pub NoPlate : Parse → Type 0
-NoPlate p = OneOf (0 ∷ 1 ∷ []) (tag_of the_type p)
-
-pub unspelt_found : (s w w' : List ℕ) {P : Parsed} (p : Parse) {r : Found} → parsed_by p w' ≡ P → ParsedWork p w w' → NoPlate p
-    → r ≡ unspelt_of p → FoundIs (compared s P) w w' r
+pub unspelt_found : (s w w' : List ℕ) {P : Parsed} (p : Parse) {r : Found} → parsed_by p w' ≡ P → ParsedWork p w w'
+    → ((new : Bool) (wd ht M k : ℕ) → p ≡ Parse.Plate new wd ht M k → ⊥) → r ≡ unspelt_of p → FoundIs (compared s P) w w' r
 unspelt_found s w w' (Parse.Early number) e x other is = rw is (record { answer = ap (compared s) e; space = x })
 unspelt_found s w w' (Parse.Late number pixels) e x other is = rw is (record { answer = ap (compared s) e; space = x })
-unspelt_found s w w' (Parse.Plate new wd ht M k) e x other is =
-    let m : (◌≡◌ {A = ℕ} 2 0) ⊎ (◌≡◌ {A = ℕ} 2 1) = other in
-    absurd (⊎_elim (λ z. omega arith) (λ z. omega arith) m)
+unspelt_found s w w' (Parse.Plate new wd ht M k) e x other is = absurd (other new wd ht M k refl)
 
 -- ---- a plate
 

@@ -1,7 +1,7 @@
 // Numbers printed one after the other, a space in front of each; equal ones in a row as `v*n`.
-ghost use Rattle.std.specs.Prelude.{◌+◌, ◌≤◌, ◌<◌};
+ghost use Rattle.std.specs.Prelude.{◌+◌, ◌≤◌, ◌<◌, IfOk};
 
-use libc::STDOUT_FILENO;
+use std::io;
 
 // Equal numbers in a row that are not printed yet.
 #[derive(Clone, Copy)]
@@ -10,40 +10,40 @@ pub struct Run {
     count: usize,
 }
 
-pub fn print_number(n: u64) {
-    io::write_all(STDOUT_FILENO, b" ");
-    io::print_decimal(STDOUT_FILENO, n);
+pub fn print_number(rt: &impl Print, n: u64) -> io::Result<()> {
+    print!(rt; " {n}")
 }
 
 // A bar, after which the next buffer is printed.
-pub fn print_bar() {
-    io::write_all(STDOUT_FILENO, b" |");
+pub fn print_bar(rt: &impl Print) -> io::Result<()> {
+    print!(rt; " |")
 }
 
-fn print_run(run: Run) {
+fn print_run(rt: &impl Print, run: Run) -> io::Result<()> {
     if run.count == 0 {
-        return;
+        return Ok(());
     }
-    print_number(run.value);
+    print_number(rt, run.value)?;
     if run.count != 1 {
-        io::write_all(STDOUT_FILENO, b"*");
-        io::print_decimal(STDOUT_FILENO, run.count as u64);
+        let count = run.count;
+        print!(rt; "*{count}")?;
     }
+    Ok(())
 }
 
 // One number more: it joins the run, or the run is printed and another begins.
-fn one_more(run: Run, n: u64) -> Run
+fn one_more(rt: &impl Print, run: Run, n: u64) -> io::Result<Run>
     requires { run.count < 18446744073709551615 }
-    ensures { result.count ≤ run.count + 1 }
+    ensures { IfOk result (λ r. r.count ≤ run.count + 1) }
 {
     if run.value == n {
-        return Run {
+        return Ok(Run {
             value: n,
             count: run.count + 1,
-        };
+        });
     }
-    print_run(run);
-    Run { value: n, count: 1 }
+    print_run(rt, run)?;
+    Ok(Run { value: n, count: 1 })
 }
 
 fn byte(n: u8) -> u64 {
@@ -58,42 +58,42 @@ fn word(n: u32) -> u64 {
     n as u64
 }
 
-pub fn print_bytes(list: &[u8]) {
+pub fn print_bytes(rt: &impl Print, list: &[u8]) -> io::Result<()> {
     let mut run = Run { value: 0, count: 0 };
     let mut i: usize = 0;
     while i < list.len() {
-        run = one_more(run, byte(list[i]));
+        run = one_more(rt, run, byte(list[i]))?;
         i += 1;
     }
-    print_run(run);
+    print_run(rt, run)
 }
 
-pub fn print_greys(list: &[u16]) {
+pub fn print_greys(rt: &impl Print, list: &[u16]) -> io::Result<()> {
     let mut run = Run { value: 0, count: 0 };
     let mut i: usize = 0;
     while i < list.len() {
-        run = one_more(run, grey(list[i]));
+        run = one_more(rt, run, grey(list[i]))?;
         i += 1;
     }
-    print_run(run);
+    print_run(rt, run)
 }
 
-pub fn print_words(list: &[u32]) {
+pub fn print_words(rt: &impl Print, list: &[u32]) -> io::Result<()> {
     let mut run = Run { value: 0, count: 0 };
     let mut i: usize = 0;
     while i < list.len() {
-        run = one_more(run, word(list[i]));
+        run = one_more(rt, run, word(list[i]))?;
         i += 1;
     }
-    print_run(run);
+    print_run(rt, run)
 }
 
-pub fn print_longs(list: &[u64]) {
+pub fn print_longs(rt: &impl Print, list: &[u64]) -> io::Result<()> {
     let mut run = Run { value: 0, count: 0 };
     let mut i: usize = 0;
     while i < list.len() {
-        run = one_more(run, list[i]);
+        run = one_more(rt, run, list[i])?;
         i += 1;
     }
-    print_run(run);
+    print_run(rt, run)
 }

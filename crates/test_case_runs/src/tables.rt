@@ -1,21 +1,29 @@
 // The cases on node lists and size lists, and the joint operation.
+use std::io;
 use test_case_lines::cases::{field, is_named, places, shape_of};
 use test_case_lines::lists::{
     print_bar, print_bytes, print_greys, print_longs, print_number, print_words,
 };
 
-fn print_columns(levels: &[u32], parents: &[u32], areas: &[u32], anchors: &[u32]) {
-    print_bar();
-    print_words(levels);
-    print_bar();
-    print_words(parents);
-    print_bar();
-    print_words(areas);
-    print_bar();
-    print_words(anchors);
+fn print_columns(
+    rt: &impl Print,
+    levels: &[u32],
+    parents: &[u32],
+    areas: &[u32],
+    anchors: &[u32],
+) -> io::Result<()> {
+    print_bar(rt)?;
+    print_words(rt, levels)?;
+    print_bar(rt)?;
+    print_words(rt, parents)?;
+    print_bar(rt)?;
+    print_words(rt, areas)?;
+    print_bar(rt)?;
+    print_words(rt, anchors)
 }
 
 fn list_nodes(
+    rt: &impl Print,
     line: &[u8],
     greys: &[u16],
     levels: &mut [u32],
@@ -23,7 +31,7 @@ fn list_nodes(
     areas: &mut [u32],
     anchors: &mut [u32],
     work: &mut [u32],
-) {
+) -> io::Result<()> {
     let s = shape_of(line);
     let list = plate_filter::node_list(
         greys,
@@ -37,12 +45,12 @@ fn list_nodes(
         anchors,
         work,
     );
-    print_number(list.refusal as u64);
-    print_number(list.count as u64);
-    print_columns(levels, parents, areas, anchors);
+    print_number(rt, list.refusal as u64)?;
+    print_number(rt, list.count as u64)?;
+    print_columns(rt, levels, parents, areas, anchors)
 }
 
-fn nodes(line: &[u8], greys: &[u16], work: &mut [u32]) {
+fn nodes(rt: &impl Print, line: &[u8], greys: &[u16], work: &mut [u32]) -> io::Result<()> {
     let mut levels = [9u32; 200];
     let mut parents = [9u32; 200];
     let mut areas = [9u32; 200];
@@ -52,6 +60,7 @@ fn nodes(line: &[u8], greys: &[u16], work: &mut [u32]) {
     let c = places(line, b"areas", 200);
     let d = places(line, b"anchors", 200);
     list_nodes(
+        rt,
         line,
         greys,
         &mut levels[..a],
@@ -59,13 +68,14 @@ fn nodes(line: &[u8], greys: &[u16], work: &mut [u32]) {
         &mut areas[..c],
         &mut anchors[..d],
         work,
-    );
+    )
 }
 
-fn entries(line: &[u8], greys: &[u16], work: &mut [u32]) {
+fn entries(rt: &impl Print, line: &[u8], greys: &[u16], work: &mut [u32]) -> io::Result<()> {
     let s = shape_of(line);
     let at = field(line, b"at") as usize;
     test_entries::list_plate(
+        rt,
         greys,
         s.width,
         s.height,
@@ -73,57 +83,70 @@ fn entries(line: &[u8], greys: &[u16], work: &mut [u32]) {
         s.connectivity,
         work,
         at,
-    );
+    )
 }
 
-fn print_size_head(head: record::SizeHead) {
-    print_number(head.refusal as u64);
-    print_number(head.width as u64);
-    print_number(head.height as u64);
-    print_number(head.greatest as u64);
-    print_number(head.connectivity as u64);
-    print_number(head.nodes as u64);
-    print_number(head.darkest as u64);
-    print_number(head.held);
+fn print_size_head(rt: &impl Print, head: record::SizeHead) -> io::Result<()> {
+    print_number(rt, head.refusal as u64)?;
+    print_number(rt, head.width as u64)?;
+    print_number(rt, head.height as u64)?;
+    print_number(rt, head.greatest as u64)?;
+    print_number(rt, head.connectivity as u64)?;
+    print_number(rt, head.nodes as u64)?;
+    print_number(rt, head.darkest as u64)?;
+    print_number(rt, head.held)
 }
 
-fn print_tables(counts: &[u32], losses: &[u64]) {
-    print_bar();
-    print_words(counts);
-    print_bar();
-    print_longs(losses);
+fn print_tables(rt: &impl Print, counts: &[u32], losses: &[u64]) -> io::Result<()> {
+    print_bar(rt)?;
+    print_words(rt, counts)?;
+    print_bar(rt)?;
+    print_longs(rt, losses)
 }
 
-fn list_sizes(bytes: &[u8], counts: &mut [u32], losses: &mut [u64], work: &mut [u32]) {
-    print_size_head(record::size_list(bytes, counts, losses, work));
-    print_tables(counts, losses);
+fn list_sizes(
+    rt: &impl Print,
+    bytes: &[u8],
+    counts: &mut [u32],
+    losses: &mut [u64],
+    work: &mut [u32],
+) -> io::Result<()> {
+    print_size_head(rt, record::size_list(bytes, counts, losses, work))?;
+    print_tables(rt, counts, losses)
 }
 
-fn sizes(line: &[u8], bytes: &[u8], work: &mut [u32]) {
+fn sizes(rt: &impl Print, line: &[u8], bytes: &[u8], work: &mut [u32]) -> io::Result<()> {
     let mut counts = [9u32; 69000];
     let mut losses = [9u64; 69000];
     let a = places(line, b"counts", 69000);
     let b = places(line, b"losses", 69000);
-    list_sizes(bytes, &mut counts[..a], &mut losses[..b], work);
+    list_sizes(rt, bytes, &mut counts[..a], &mut losses[..b], work)
 }
 
-fn print_joint(joint: record_write_cut_list::CutListed) {
-    print_number(joint.refusal as u64);
-    print_number(joint.length as u64);
-    print_number(joint.nodes as u64);
-    print_number(joint.darkest as u64);
-    print_number(joint.held);
+fn print_joint(rt: &impl Print, joint: record_write_cut_list::CutListed) -> io::Result<()> {
+    print_number(rt, joint.refusal as u64)?;
+    print_number(rt, joint.length as u64)?;
+    print_number(rt, joint.nodes as u64)?;
+    print_number(rt, joint.darkest as u64)?;
+    print_number(rt, joint.held)
 }
 
-fn print_outputs(record: &[u8], out: &[u16], counts: &[u32], losses: &[u64]) {
-    print_bar();
-    print_bytes(record);
-    print_bar();
-    print_greys(out);
-    print_tables(counts, losses);
+fn print_outputs(
+    rt: &impl Print,
+    record: &[u8],
+    out: &[u16],
+    counts: &[u32],
+    losses: &[u64],
+) -> io::Result<()> {
+    print_bar(rt)?;
+    print_bytes(rt, record)?;
+    print_bar(rt)?;
+    print_greys(rt, out)?;
+    print_tables(rt, counts, losses)
 }
 
 fn join(
+    rt: &impl Print,
     line: &[u8],
     greys: &[u16],
     record: &mut [u8],
@@ -131,7 +154,7 @@ fn join(
     counts: &mut [u32],
     losses: &mut [u64],
     work: &mut [u32],
-) {
+) -> io::Result<()> {
     let s = shape_of(line);
     let limit = field(line, b"limit");
     let joint = record_write_cut_list::write_cut_list(
@@ -147,11 +170,11 @@ fn join(
         losses,
         work,
     );
-    print_joint(joint);
-    print_outputs(record, out, counts, losses);
+    print_joint(rt, joint)?;
+    print_outputs(rt, record, out, counts, losses)
 }
 
-fn joint(line: &[u8], greys: &[u16], work: &mut [u32]) {
+fn joint(rt: &impl Print, line: &[u8], greys: &[u16], work: &mut [u32]) -> io::Result<()> {
     let mut record = [170u8; 1000];
     let mut out = [43690u16; 1000];
     let mut counts = [9u32; 200];
@@ -161,6 +184,7 @@ fn joint(line: &[u8], greys: &[u16], work: &mut [u32]) {
     let c = places(line, b"counts", 200);
     let d = places(line, b"losses", 200);
     join(
+        rt,
         line,
         greys,
         &mut record[..a],
@@ -168,35 +192,47 @@ fn joint(line: &[u8], greys: &[u16], work: &mut [u32]) {
         &mut counts[..c],
         &mut losses[..d],
         work,
-    );
+    )
 }
 
 // Runs the case if it is one of these, and gives whether it is.
-fn choose(line: &[u8], bytes: &[u8], greys: &[u16], work: &mut [u32]) -> bool {
+fn choose(
+    rt: &impl Print,
+    line: &[u8],
+    bytes: &[u8],
+    greys: &[u16],
+    work: &mut [u32],
+) -> io::Result<bool> {
     if is_named(line, b"nodes") {
-        nodes(line, greys, work);
-        return true;
+        nodes(rt, line, greys, work)?;
+        return Ok(true);
     }
     if is_named(line, b"entries") {
-        entries(line, greys, work);
-        return true;
+        entries(rt, line, greys, work)?;
+        return Ok(true);
     }
     if is_named(line, b"sizes") {
-        sizes(line, bytes, work);
-        return true;
+        sizes(rt, line, bytes, work)?;
+        return Ok(true);
     }
     if is_named(line, b"joint") {
-        joint(line, greys, work);
-        return true;
+        joint(rt, line, greys, work)?;
+        return Ok(true);
     }
-    false
+    Ok(false)
 }
 
-pub fn run(line: &[u8], bytes: &[u8], greys: &[u16], work: &mut [u32]) -> bool {
-    if choose(line, bytes, greys, work) {
-        print_bar();
-        print_words(work);
-        return true;
+pub fn run(
+    rt: &impl Print,
+    line: &[u8],
+    bytes: &[u8],
+    greys: &[u16],
+    work: &mut [u32],
+) -> io::Result<bool> {
+    if choose(rt, line, bytes, greys, work)? {
+        print_bar(rt)?;
+        print_words(rt, work)?;
+        return Ok(true);
     }
-    false
+    Ok(false)
 }

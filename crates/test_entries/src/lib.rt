@@ -2,29 +2,36 @@
 // anchor) after a bar, and an entry that `node_at` reads. An entry holds 9 before.
 #![tactic(auto)]
 
+use std::io;
 use test_case_lines::lists::{print_bar, print_number, print_words};
 
-fn print_node(node: plate_entries::Node) {
+fn print_node(rt: &impl Print, node: plate_entries::Node) -> io::Result<()> {
     let numbers = [node.level, node.parent, node.area, node.anchor];
-    print_bar();
-    print_words(&numbers);
+    print_bar(rt)?;
+    print_words(rt, &numbers)
 }
 
-fn print_list(list: [plate_entries::Node; 6]) {
+fn print_list(rt: &impl Print, list: [plate_entries::Node; 6]) -> io::Result<()> {
     let mut i: usize = 0;
     while i < 6 {
         let node = list[i];
-        print_node(node);
+        print_node(rt, node)?;
         i += 1;
     }
+    Ok(())
 }
 
 // Prints what was answered, what the list holds, and the entry that was read.
-fn show(answer: plate_tree::NodeList, list: [plate_entries::Node; 6], one: plate_entries::Node) {
-    print_number(answer.refusal as u64);
-    print_number(answer.count as u64);
-    print_list(list);
-    print_node(one);
+fn show(
+    rt: &impl Print,
+    answer: plate_tree::NodeList,
+    list: [plate_entries::Node; 6],
+    one: plate_entries::Node,
+) -> io::Result<()> {
+    print_number(rt, answer.refusal as u64)?;
+    print_number(rt, answer.count as u64)?;
+    print_list(rt, list)?;
+    print_node(rt, one)
 }
 
 // Six entries that no node has.
@@ -40,6 +47,7 @@ fn unwritten() -> [plate_entries::Node; 6] {
 
 // Owns a list, lends it to be filled and to be read, and shows it.
 pub fn list_plate(
+    rt: &impl Print,
     image: &[u16],
     width: u32,
     height: u32,
@@ -47,7 +55,7 @@ pub fn list_plate(
     connectivity: u32,
     work: &mut [u32],
     at: usize,
-) {
+) -> io::Result<()> {
     let mut list = unwritten();
     let answer = plate_entries::node_entries(
         image,
@@ -59,5 +67,5 @@ pub fn list_plate(
         work,
     );
     let one = plate_entries::node_at(&list, at);
-    show(answer, list, one);
+    show(rt, answer, list, one)
 }

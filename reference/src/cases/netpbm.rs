@@ -1,7 +1,6 @@
-//! The files of `data/`, made by Netpbm: read whole and as rolls, and their headers where
+//! The files of `data/`, made by Netpbm: read whole, and their headers where
 //! they begin and elsewhere.
 
-use super::rolls::plate;
 use super::Case;
 
 /// The files, as they stand in `data/README.md`.
@@ -27,7 +26,6 @@ pub fn cases(cases: &mut Vec<Case>) {
             cases.push(Case::new("file").with("out", places).on(file));
         }
         cases.push(Case::new("text").on(file));
-        cases.push(plate(file, 1, 13));
         for at in 0..=file.len() + 1 {
             cases.push(Case::new("header").with("at", at).on(file));
         }

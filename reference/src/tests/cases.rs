@@ -17,9 +17,8 @@ fn answers(text: &str, name: &str) -> BTreeSet<u32> {
 }
 
 /// The numbers that each operation answers: six on plates, three on records that both
-/// forms share, then two conversions, two on files, writing a file, a plate from a seed,
-/// three on rolls.
-const NUMBERS: [(&str, &[u32]); 18] = [
+/// forms share, then two conversions, two on files, writing a file, a plate from a seed.
+const NUMBERS: [(&str, &[u32]); 15] = [
     ("clean", &[0, 1, 2, 3, 4, 5, 6, 26, 28, 29]),
     ("maxima", &[0, 1, 2, 3, 5, 6, 28, 29]),
     ("nodes", &[0, 1, 2, 3, 5, 6, 28, 29]),
@@ -35,9 +34,6 @@ const NUMBERS: [(&str, &[u32]); 18] = [
     ("header", &[0, 10, 11]),
     ("pgm", &[0, 2, 3, 5, 28, 29]),
     ("seeded", &[0, 2, 5]),
-    ("count", &[0, 2, 10, 11, 12, 14, 28]),
-    ("plate", &[0, 2, 5, 10, 11, 12, 14, 25, 28]),
-    ("place", &[0, 2, 10, 11, 12, 14, 28]),
 ];
 
 #[test]
@@ -154,7 +150,7 @@ fn most_places(case: &Case, field: &str) -> u32 {
     match (case.name, field) {
         (_, "work") => 543_000,
         ("joint", "record" | "out") => 1_000,
-        ("joint" | "nodes" | "file" | "plate", _) => 200,
+        ("joint" | "nodes" | "file", _) => 200,
         _ => 69_000,
     }
 }
@@ -377,36 +373,5 @@ fn the_second_of_two_images() {
     holds(
         &format!("file out 13 bytes {images}"),
         "file 15 0 0 0 | 43690*13",
-    );
-    holds(
-        &format!("plate number 1 out 13 bytes {images}"),
-        "plate 0 1 1 255 | 64 43690*12",
-    );
-}
-
-#[test]
-fn the_empty_roll_and_two_plates() {
-    holds("count bytes", "count 0 0");
-    holds("plate number 0 out 0 bytes", "plate 25 0 0 0 |");
-    holds("place at 0 bytes", "place 10 0 0 0 0 0");
-    holds("text bytes", "text 0 |");
-    holds("file out 2 bytes", "file 10 0 0 0 | 43690*2");
-    let one = "80 53 32 49 32 49 32 57 32 1";
-    let two = format!("{one} 80 53 32 49 32 49 32 50 53 54 32 1 0");
-    holds(&format!("count bytes {two}"), "count 0 2");
-    holds(
-        &format!("plate number 1 out 1 bytes {two}"),
-        "plate 0 1 1 256 | 256",
-    );
-    holds(
-        &format!("plate number 4294967295 out 0 bytes {two}"),
-        "plate 25 0 0 0 |",
-    );
-    holds(&format!("place at 10 bytes {two}"), "place 0 1 1 256 21 23");
-    let fault = format!("{one} {one} 80 53 32 49 32 49 32 57 32 97");
-    holds(&format!("count bytes {fault}"), "count 28 0");
-    holds(
-        &format!("plate number 0 out 1 bytes {fault}"),
-        "plate 28 0 0 0 | 43690",
     );
 }

@@ -294,23 +294,6 @@ pub fn plate_file(plate: &[u16], w: u32, h: u32, m: u32) -> Vec<u8> {
     out
 }
 
-/// Width, height, greatest grey and greys.
-pub type Plate = (u32, u32, u32, Vec<u16>);
-
-/// The plate that was read into an output, or the refusal; checks the excess, and that a
-/// refusal has zeros beside it and left the output untouched.
-pub fn plate_read(head: PlateHead, mut out: Vec<u16>) -> Result<Plate, u32> {
-    if head.refusal != 0 {
-        assert_eq!((head.width, head.height, head.greatest), (0, 0, 0));
-        assert!(all_are(&out, GREY));
-        return Err(head.refusal);
-    }
-    let pixels = (head.width * head.height) as usize;
-    assert!(all_are(&out[pixels..], GREY));
-    out.truncate(pixels);
-    Ok((head.width, head.height, head.greatest, out))
-}
-
 /// The plate with a border one pixel wide of a grey: none of its pixels is on the
 /// trim edge of the framed plate, which has two columns and two rows more.
 pub fn framed(plate: &[u16], width: u32, grey: u16) -> Vec<u16> {

@@ -542,13 +542,13 @@ fn plate_files_refused_behind_the_header() {
 #[test]
 fn the_text_of_refusals() {
     let cases: [(&[u8], &str); 8] = [
-        (b"p5 2 1 255 ab", "refused 10\n"),
+        (b"", "refused 10\n"),
         (b"P5 2 1 255", "refused 11\n"),
         (b"P5 0 1 255 ", "refused 2\n"),
         (b"P5 2 1 0 ab", "refused 12\n"),
         (b"P5 2 1 25 ab", "refused 28\n"),
         (b"P5 2 1 255 a", "refused 14\n"),
-        (b"P5 2 1 255 abc", "refused 10\n"),
+        (b"P5 2 1 255 abc", "refused 15\n"),
         (b"P5 33 32 255 ", "refused 14\n"),
     ];
     for (input, text) in cases {

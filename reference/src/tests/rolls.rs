@@ -1,19 +1,39 @@
 //! Rolls: the specification's examples, the plates found by another way and by every cut
 //! into plate files, each plate alone, what follows a sound roll, the order of the
-//! conditions, the output, the plate at a place, the text of a roll, and slips that the
-//! cases tell.
+//! conditions, the output, the plate at a place.
 
 use std::collections::BTreeSet;
 
 use super::helpers::*;
-use super::written::plate_of;
-use crate::case::Case;
 use crate::grid::{is_greatest, is_size};
-use crate::pgm::bytes_a_pixel;
 use crate::*;
 
 /// A number, or a refusal.
 type Answer = Result<usize, u32>;
+
+/// Width, height, greatest grey and greys.
+type Plate = (u32, u32, u32, Vec<u16>);
+
+/// The plate that was read into an output, or the refusal; checks the excess, and that a
+/// refusal has zeros beside it and left the output untouched.
+fn plate_read(head: PlateHead, mut out: Vec<u16>) -> Result<Plate, u32> {
+    if head.refusal != 0 {
+        assert_eq!((head.width, head.height, head.greatest), (0, 0, 0));
+        assert!(all_are(&out, GREY));
+        return Err(head.refusal);
+    }
+    let pixels = (head.width * head.height) as usize;
+    assert!(all_are(&out[pixels..], GREY));
+    out.truncate(pixels);
+    Ok((head.width, head.height, head.greatest, out))
+}
+
+/// The plate that a file alone stands for, or its refusal.
+fn plate_of(file: &[u8], places: usize) -> Result<Plate, u32> {
+    let mut out = vec![GREY; places + EXCESS];
+    let head = read_pgm(file, &mut out);
+    plate_read(head, out)
+}
 
 /// The number of plates, or the refusal.
 fn counted(roll: &[u8]) -> Answer {
@@ -388,7 +408,6 @@ fn the_first_faulty_plate_decides() {
                     }
                     assert_eq!(counted(&roll), Err(number));
                     assert_eq!(end_of(&roll, front.len()), Err(number));
-                    assert_eq!(sizelist_text(&roll), format!("refused {number}\n"));
                 }
             }
         }
@@ -447,143 +466,5 @@ fn numbers_of_plates_and_outputs() {
                 assert_eq!(chosen(&roll, beyond, places), Err(25));
             }
         }
-    }
-}
-
-#[test]
-fn the_text_of_a_roll_is_the_texts_of_its_plates() {
-    let mut random = Lcg(85);
-    assert_eq!(sizelist_text(b""), "");
-    for _ in 0..300 {
-        let files = some_files(&mut random);
-        let texts: String = files.iter().map(|file| sizelist_text(file)).collect();
-        assert_eq!(sizelist_text(&files.concat()), texts);
-    }
-    for roll in rolls() {
-        if let Err(refusal) = counted(&roll) {
-            assert_eq!(sizelist_text(&roll), format!("refused {refusal}\n"));
-        }
-    }
-}
-
-#[test]
-fn the_text_of_rolls_at_1024_pixels_and_4096_bytes() {
-    let large = plate_file(&[3; 1_025], 1_025, 1, 255);
-    let full = plate_file(&[3; 1_024], 32, 32, 255);
-    let listed = "size 32 32 4 1\nheld 0\nrest 3 99\n";
-    assert_eq!(sizelist_text(&full.repeat(3)), listed.repeat(3));
-    for sound in [
-        [ONE, &large].concat(),
-        [&large, ONE].concat(),
-        large.repeat(2),
-    ] {
-        assert_eq!(sizelist_text(&sound), "refused 5\n");
-        assert_eq!(sizelist_text(&[&sound, &full[..]].concat()), "refused 5\n");
-        for (number, fault) in FAULTS {
-            let text = format!("refused {number}\n");
-            assert_eq!(sizelist_text(&[&sound[..], fault].concat()), text);
-        }
-    }
-    let many = b"P5 1 1 1 \x01".repeat(409);
-    let listed = "size 1 1 4 1\nheld 0\nrest 1 0\n".repeat(409);
-    assert_eq!((many.len(), sizelist_text(&many)), (4_090, listed));
-    assert_eq!(counted(&many.repeat(3)), Ok(3 * 409));
-    for (bytes, number) in [(4_096, 10), (4_097, 6), (4_100, 6)] {
-        let mut roll = many.clone();
-        roll.resize(bytes, b'x');
-        assert_eq!(sizelist_text(&roll), format!("refused {number}\n"));
-    }
-}
-
-/// The cases of an operation.
-fn cases_of<'a>(cases: &'a str, name: &str) -> Vec<Case<'a>> {
-    let cases = cases.lines().map(Case::of);
-    cases.filter(|case| case.name == name).collect()
-}
-
-/// Where the plate at a place ends, or that none is looked for, or a refusal.
-type Next = fn(&[u8], usize) -> Result<Option<usize>, u32>;
-
-/// The number of plates where each is followed by the next in a way of its own.
-fn walked(roll: &[u8], next: Next) -> Answer {
-    let (mut at, mut count) = (0, 0);
-    while at < roll.len() {
-        let Some(end) = next(roll, at)? else {
-            break;
-        };
-        at = end;
-        count += 1;
-    }
-    Ok(count)
-}
-
-/// Slips in counting: no more than one plate is looked at; bytes that do not begin a plate
-/// end the roll; blanks ahead of a plate are skipped; the plates ahead of a faulty one are
-/// counted; a pixel above the greatest grey is let pass.
-const SLIPS: [Next; 5] = [
-    |roll, at| (at == 0).then(|| end_of(roll, at)).transpose(),
-    |roll, at| match end_of(roll, at) {
-        Err(10) if at > 0 => Ok(None),
-        end => end.map(Some),
-    },
-    |roll, at| {
-        let blank = |byte: &&u8| b" \t\r\n".contains(byte);
-        let at = at + roll[at..].iter().take_while(blank).count();
-        (at < roll.len()).then(|| end_of(roll, at)).transpose()
-    },
-    |roll, at| Ok(end_of(roll, at).ok()),
-    |roll, at| match end_of(roll, at) {
-        Err(28) => {
-            let header = header_at(roll, at);
-            let pixels = (header.width * header.height) as usize;
-            Ok(Some(
-                header.raster + pixels * bytes_a_pixel(header.greatest),
-            ))
-        }
-        end => end.map(Some),
-    },
-];
-
-#[test]
-fn the_cases_tell_slips_in_counting() {
-    let cases = cases_text();
-    let rolls: Vec<_> = cases_of(&cases, "count").iter().map(Case::bytes).collect();
-    for slip in SLIPS {
-        let told = |roll: &Vec<u8>| walked(roll, slip) != counted(roll);
-        assert!(rolls.iter().filter(|roll| told(roll)).count() >= 3);
-    }
-    let right: Next = |roll, at| end_of(roll, at).map(Some);
-    assert!(rolls
-        .iter()
-        .all(|roll| walked(roll, right) == counted(roll)));
-}
-
-/// The refusal of choosing a plate where those after it are not judged.
-fn judged_up_to(roll: &[u8], number: usize, places: usize) -> u32 {
-    let mut at = 0;
-    for _ in 0..=number {
-        if at == roll.len() {
-            return 25;
-        }
-        match plate_at(roll, at) {
-            plate if plate.refusal != 0 => return plate.refusal,
-            plate => at = plate.end,
-        }
-    }
-    // the roll that ends with the chosen plate
-    chosen(&roll[..at], number, places).map_or_else(|refusal| refusal, |_| 0)
-}
-
-#[test]
-fn the_cases_tell_that_plates_after_the_chosen_one_are_judged() {
-    let mut told = BTreeSet::new();
-    for case in cases_of(&cases_text(), "plate") {
-        let [number, places] = ["number", "out"].map(|field| case.number(field) as usize);
-        let roll = case.bytes();
-        let refusal = chosen(&roll, number, places).map_or_else(|refusal| refusal, |_| 0);
-        told.insert((judged_up_to(&roll, number, places), refusal));
-    }
-    for refusal in [10, 11, 2, 12, 14, 28] {
-        assert!(told.contains(&(0, refusal)) && told.contains(&(5, refusal)));
     }
 }

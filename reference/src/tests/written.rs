@@ -23,10 +23,15 @@ fn the_bytes_of_a_file() {
 }
 
 /// The plate that a file stands for, or its refusal; places for so many pixels are lent.
-pub fn plate_of(file: &[u8], places: usize) -> Result<Plate, u32> {
+fn plate_of(file: &[u8], places: usize) -> Result<(u32, u32, u32, Vec<u16>), u32> {
     let mut out = vec![GREY; places + EXCESS];
     let head = read_pgm(file, &mut out);
-    plate_read(head, out)
+    if head.refusal != 0 {
+        assert!(all_are(&out, GREY));
+        return Err(head.refusal);
+    }
+    out.truncate((head.width * head.height) as usize);
+    Ok((head.width, head.height, head.greatest, out))
 }
 
 /// The plate's file has the form and reads as the plate; a byte less or more does neither.

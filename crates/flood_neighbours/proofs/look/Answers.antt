@@ -28,7 +28,7 @@ get_pair-a-requires c =
 pub rise-requires : goal.rise-requires
 rise-requires c =
     record {
-      looking = c.requires;
+      looking = (c.requires.looking, c.requires.toward);
       new_level = record {
         level = look_level c.requires.looking c.requires.toward c.get-o.ensures.0 c.if-o-n.false;
         unseen = look_new c.requires.looking c.requires.toward c.get-o.ensures.0 c.if-o-n.false;

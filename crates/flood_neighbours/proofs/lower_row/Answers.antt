@@ -1,7 +1,7 @@
 -- `flood_neighbours::lower_row` meets its contract.
 use Prim.Native.Nat.{◌+◌, ◌*◌}
 use native.Mathlib.Omega.{arith}
-use Rattle.flood_laws.specs.Contracts.{LowerRow}
+use Rattle.flood_laws.specs.Functions.{LowerRow}
 use Rattle.flood_laws.proofs.Looks.{look_risen, then}
 use Rattle.flood_neighbours.proofs.lower_row.Goals as goal
 

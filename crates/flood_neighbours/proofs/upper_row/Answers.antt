@@ -1,7 +1,7 @@
 -- `flood_neighbours::upper_row` meets its contract.
 use Prim.Native.Nat.{◌+◌, ◌*◌}
 use native.Mathlib.Omega.{arith}
-use Rattle.flood_laws.specs.Contracts.{UpperRow}
+use Rattle.flood_laws.specs.Functions.{UpperRow}
 use Rattle.flood_laws.proofs.Looks.{look_risen, then}
 use Rattle.flood_neighbours.proofs.upper_row.Goals as goal
 

@@ -43,7 +43,7 @@ overflow_cast-result-3 c = omega (arith, c.type_inv.raster (2 * c.args.p + 1))
 pub overflow_add-result-2 : goal.overflow_add-result-2
 overflow_add-result-2 c =
     let p = c.args.p in
-    omega (arith, c.shared_slice_known-2-1.given (2 * p), c.type_inv.raster (2 * p + 1))
+    omega (arith, c.type_inv.raster (2 * p), c.type_inv.raster (2 * p + 1))
 
 pub returns : goal.returns
 returns c = pair-grey _ _ c.pixel_bytes.ensures c.requires c.if-pixel_bytes-eq1.false

@@ -34,7 +34,7 @@ plate c = let a = c.args in
     write_taken a.width a.height a.greatest (image c) a.out.now c.image_refusal-refusal.ensures c.if-refusal-ne0.false
 
 -- the header stands at the front of the array
-header_is : (c : After-pixel_bytes) → let p = c.put_header-raster in take p.result p.new.0 ≡ header c
+header_is : (c : After-pixel_bytes) → let p = c.put_header-raster in take p.result p.new.text ≡ header c
 header_is c = put_front c.put_header-raster.ensures.put_text
 
 header-long : (c : After-pixel_bytes) → c.put_header-raster.result ≡ length (header c)
@@ -82,13 +82,13 @@ put_word-requires c =
 
 pub put_raster-requires : goal.put_raster-requires
 put_raster-requires c =
-    let room : length c.args.out.now ≡ length c.put_word.new.0 = sym (put_length c.put_word.ensures) in record { image_in_bounds = omega (arith, raster-size (goal.at.put_raster-requires c).After-pixel_bytes, c.if-out-length.false, room); image_value = above_none c.args.greatest (image (goal.at.put_raster-requires c).After-pixel_bytes) (plate (goal.at.put_raster-requires c).After-pixel_bytes).greys }
+    let room : length c.args.out.now ≡ length c.put_word.new.text = sym (put_length c.put_word.ensures) in record { image_in_bounds = omega (arith, raster-size (goal.at.put_raster-requires c).After-pixel_bytes, c.if-out-length.false, room); image_value = above_none c.args.greatest (image (goal.at.put_raster-requires c).After-pixel_bytes) (plate (goal.at.put_raster-requires c).After-pixel_bytes).greys }
 
 pub returns : goal.returns
 unfolding pgm_of
 returns c =
     let a = c.args in
-    let front : PutText a.out.now 0 (header (goal.at.returns c).After-pixel_bytes) c.put_word.new.0 c.put_header-raster.result =
+    let front : PutText a.out.now 0 (header (goal.at.returns c).After-pixel_bytes) c.put_word.new.text c.put_header-raster.result =
     record {
       after = omega (arith, header-long (goal.at.returns c).After-pixel_bytes);
       room = omega (arith, c.if-out-length.false);

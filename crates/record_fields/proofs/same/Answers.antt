@@ -35,7 +35,7 @@ field_at-v-requires c = record { tree_stands = c.requires; i_bound = omega arith
 pub returns-in_default : goal.returns-in_default
 returns-in_default c =
     comparing_differs c.requires c.args.new c.loop-i.i c.first_field-first.ensures c.loop-i.invariant c.loop-i-test.true
-    c.field_at-v.ensures c.same_field-c.ensures c.enum_told-1.given.1
+    c.field_at-v.ensures c.same_field-c.ensures c.in_default.is
 
 pub overflow_add-i : goal.overflow_add-i
 overflow_add-i c = omega (arith, column_few c.requires)
@@ -43,7 +43,7 @@ overflow_add-i c = omega (arith, column_few c.requires)
 pub loop-i-preserved : goal.loop-i-preserved
 loop-i-preserved c =
     comparing_more c.requires c.args.new c.loop-i.i c.first_field-first.ensures c.loop-i.invariant c.loop-i-test.true
-    c.field_at-v.ensures c.same_field-c.ensures c.c-1.given.1
+    c.field_at-v.ensures c.same_field-c.ensures c.in-Same.is
 
 pub returns : goal.returns
 returns c =

@@ -20,10 +20,10 @@ shape_of-work-in_default c =
     )
 
 pub returns-in_default : goal.returns-in_default
-returns-in_default c = nodes-stop c.loop-i.invariant c.loop-i-test.true c.read_node-node.ensures c.enum_told-1.given.1
+returns-in_default c = nodes-stop c.loop-i.invariant c.loop-i-test.true c.read_node-node.ensures c.in_default.is
 
 pub loop-i-preserved : goal.loop-i-preserved
-loop-i-preserved c = nodes-more c.loop-i.invariant c.loop-i-test.true c.read_node-node.ensures c.node-1.given.1
+loop-i-preserved c = nodes-more c.loop-i.invariant c.loop-i-test.true c.read_node-node.ensures c.in-Next.is
 
 pub shape_of-work : goal.shape_of-work
 shape_of-work c = c.loop-i.invariant.frame.len

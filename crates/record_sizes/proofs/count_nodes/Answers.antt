@@ -24,7 +24,7 @@ loop-j-smaller c = omega (arith, c.loop-j-test.true)
 pub loop-j-preserved : goal.loop-j-preserved
 loop-j-preserved c =
     listing_more ones c.loop-j.invariant
-    c.loop-j-test.true c.count_node.auto.1.1.1.1.0 c.count_node.ensures
+    c.loop-j-test.true c.count_node.auto.counts c.count_node.ensures
 
 pub shape_of-counts : goal.shape_of-counts
 shape_of-counts c = c.loop-j.invariant.len

@@ -17,7 +17,7 @@ clear_tables-requires c =
 
 pub count_nodes-requires : goal.count_nodes-requires
 count_nodes-requires c =
-    let places = c.clear_tables.auto.0 in
+    let places = c.clear_tables.auto.counts in
     record { attributed_stands = c.requires.attributed_stands; table_of = tallying_zero c.requires.attributed_stands ones c.args.counts.now c.clear_tables.ensures.counts_after (omega (arith, c.requires.tables_fit.counts_fit, places)) }
 
 pub sum_losses-requires : goal.sum_losses-requires
@@ -25,7 +25,7 @@ sum_losses-requires c =
     record {
       attributed_stands = c.requires.attributed_stands;
       table_of = tallying_zero c.requires.attributed_stands (loss_of c.args.g.pixels c.args.w.now) c.args.losses.now c.clear_tables.ensures.losses_after
-          (omega (arith, c.requires.tables_fit.losses_fit, c.clear_tables.kept.1));
+          (omega (arith, c.requires.tables_fit.losses_fit, c.clear_tables.auto.losses));
     }
 
 pub sum_held-requires : goal.sum_held-requires

@@ -24,7 +24,7 @@ loop-j-smaller c = omega (arith, c.loop-j-test.true)
 pub loop-j-preserved : goal.loop-j-preserved
 loop-j-preserved c =
     listing_more (loss_of c.args.g.pixels c.args.w.now) c.loop-j.invariant
-    c.loop-j-test.true c.add_loss.auto.1.1.1.1.0 c.add_loss.ensures
+    c.loop-j-test.true c.add_loss.auto.losses c.add_loss.ensures
 
 pub shape_of-losses : goal.shape_of-losses
 shape_of-losses c = c.loop-j.invariant.len

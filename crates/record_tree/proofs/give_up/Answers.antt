@@ -1,14 +1,9 @@
 -- `record_tree::give_up` meets its contract.
-use borrow.Author.Rules.{rules}
-use mathlib.Core.Path.{refl}
+use Rattle.std.proofs.Common.{refl}
 use Rattle.record_tree.proofs.give_up.Goals as goal
 
 pub clear-requires : goal.clear-requires
-clear-requires c =
-    let e = c.f-in-Late-1.given.1 in
-    rw e at c.requires
+clear-requires c = rw c.in-Late.is at c.requires
 
 pub returns-in-Late : goal.returns-in-Late
-returns-in-Late c =
-    let e = c.f-in-Late-1.given.1 in
-    rw e (refl, c.clear.ensures)
+returns-in-Late c = rw c.in-Late.is (refl, c.clear.ensures)

@@ -235,8 +235,8 @@ afterwards: only the frame then lies on the border, and no patch inside reaches 
 An OUT that is write-protected is left as it is, except with --force, which replaces it.
 IN.pgm is a binary PGM (P5) of up to 32768 x 32768 and 16777216 pixels with a greatest grey of 1 to 65535: one byte a
 pixel up to 255, else two, the high one first. OUT.pgm has the same greatest grey, and that of a seed has 255.
-clean, sizelist and roll read a roll: any number of such files one after the other, none included, of up to 4294967296
-bytes. All its plates are cleaned alike and written as a roll, or listed in order; one that is faulty refuses them all.
+roll reads a roll: any number of such files one after the other, none included, of up to 4294967296 bytes. One that is
+faulty refuses them all.
 IN.rec is a record in the new form, which has the greatest grey, or in the old one, whose greatest grey is 255.
 
 Exit status: 0 done; 1 refused, with the number and the reason; 2 bad usage; 3 a file cannot be read or written,

@@ -1,5 +1,4 @@
-//! Runs a command: the input is read whole, the work is done, and only then is anything written. The work on several
-//! plates is done while they are written, after all are judged.
+//! Runs a command: the input is read whole, the work is done, and only then is anything written.
 
 use std::ffi::OsStr;
 
@@ -11,33 +10,45 @@ use crate::input;
 use crate::output;
 use crate::progress::Progress;
 use crate::rolls;
-use crate::words::{Facts, Place};
+use crate::words::Facts;
 
 pub fn run(command: &Command) -> Result<(), Failure> {
     match command.verb {
-        Verb::Clean => rolls::clean(command),
-        Verb::Maxima => maxima(command),
+        Verb::Clean => from_plate(command, "cleaning", clean),
+        Verb::Maxima => from_plate(command, "marking maxima", maxima),
         Verb::Nodes => nodes(command),
         Verb::Record => record(command),
         Verb::Plate => plate(command),
         Verb::Cut => cut(command),
         Verb::Convert => convert(command),
-        Verb::SizeList => rolls::size_list(command),
+        Verb::SizeList => size_list(command),
         Verb::RollCount => rolls::count(command),
         Verb::RollPlate => rolls::plate(command),
         Verb::Seed => seed(command),
     }
 }
 
+fn clean(plate: &Plate, command: &Command) -> Result<Plate, Refusal> {
+    let side = command.side.ok_or(Refusal::Side)?;
+    plate.clean(side, command.connectivity, command.limit.number)
+}
+
 /// Marks as a picture: the greatest grey inside a maximum.
-fn maxima(command: &Command) -> Result<(), Failure> {
-    let file = on_plate(command, "marking maxima", |plate| {
-        let marks = plate.regional_maxima(command.connectivity)?;
-        let (width, height, greatest) = (plate.width(), plate.height(), plate.greatest());
-        let greys = marks.greys().iter();
-        let greys = greys.map(|mark| greatest as u16 * mark).collect();
-        Plate::new(width, height, greatest, greys).to_pgm()
-    })?;
+fn maxima(plate: &Plate, command: &Command) -> Result<Plate, Refusal> {
+    let marks = plate.regional_maxima(command.connectivity)?;
+    let (width, height, greatest) = (plate.width(), plate.height(), plate.greatest());
+    let greys = marks.greys().iter();
+    let greys = greys.map(|mark| greatest as u16 * mark).collect();
+    Ok(Plate::new(width, height, greatest, greys))
+}
+
+/// From a plate file to a plate file.
+fn from_plate(
+    command: &Command,
+    doing: &str,
+    operation: fn(&Plate, &Command) -> Result<Plate, Refusal>,
+) -> Result<(), Failure> {
+    let file = on_plate(command, doing, |plate| operation(plate, command)?.to_pgm())?;
     write_bytes(command, &file)
 }
 
@@ -87,6 +98,13 @@ fn nodes(command: &Command) -> Result<(), Failure> {
     })
 }
 
+fn size_list(command: &Command) -> Result<(), Failure> {
+    let sizes = on_plate(command, "listing sizes", |plate| {
+        plate.record(command.connectivity)?.sizes()
+    })?;
+    output::write(command, &|out| write!(out, "{sizes}"))
+}
+
 fn seed(command: &Command) -> Result<(), Failure> {
     let Size { width, height } = &command.size;
     let plate = Plate::seeded(command.seed, width.number, height.number);
@@ -105,37 +123,19 @@ fn seed(command: &Command) -> Result<(), Failure> {
 fn on_plate<T>(
     command: &Command,
     doing: &str,
-    work: impl FnOnce(Plate) -> Result<T, Refusal>,
+    work: impl FnOnce(&Plate) -> Result<T, Refusal>,
 ) -> Result<T, Failure> {
-    on_this_plate(command, input::read_plate(command)?, doing, work)
-}
-
-/// Does the work on a plate, and shows its progress.
-pub fn on_this_plate<T>(
-    command: &Command,
-    plate: Plate,
-    doing: &str,
-    work: impl FnOnce(Plate) -> Result<T, Refusal>,
-) -> Result<T, Failure> {
-    let size = (plate.width(), plate.height());
-    let _progress = Progress::of(format!("{doing}, {} x {}", size.0, size.1));
-    work(plate).map_err(|refusal| refused_plate(command, refusal, size, None))
-}
-
-/// Tells what was refused of a plate of this size, or of that plate of a roll.
-pub fn refused_plate(
-    command: &Command,
-    refusal: Refusal,
-    size: (u32, u32),
-    place: Option<Place>,
-) -> Failure {
-    let facts = Facts {
-        size: Some(size),
-        limit: &command.limit.given,
-        place,
-        ..Facts::default()
-    };
-    Failure::refused(&command.input, refusal, &facts)
+    let plate = input::read_plate(command)?;
+    let (width, height) = (plate.width(), plate.height());
+    let _progress = Progress::of(format!("{doing}, {width} x {height}"));
+    work(&plate).map_err(|refusal| {
+        let facts = Facts {
+            size: Some((width, height)),
+            limit: &command.limit.given,
+            ..Facts::default()
+        };
+        Failure::refused(&command.input, refusal, &facts)
+    })
 }
 
 /// Does the work on a record, and shows its progress.
@@ -150,7 +150,7 @@ fn on_record<T>(
     })
 }
 
-/// Writes a plate file, a record or a text.
+/// Writes a plate file, a record or a line.
 pub fn write_bytes(command: &Command, bytes: &[u8]) -> Result<(), Failure> {
     output::write(command, &|out| out.write_all(bytes))
 }

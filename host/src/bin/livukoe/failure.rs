@@ -44,13 +44,14 @@ impl Failure {
         Failure::File(format!("cannot write {name}: {error}"))
     }
 
-    /// Says on standard error what went wrong.
+    /// Says on standard error what went wrong. Where nothing can be said, the status says it.
     pub fn report(&self) {
-        match self {
-            Failure::Usage(words) => say(&format!("{words}; see livukoe --help")),
-            Failure::Refused(words) | Failure::File(words) => say(words),
-            Failure::BrokenPipe => {}
-        }
+        let line = match self {
+            Failure::Usage(words) => format!("livukoe: {words}; see livukoe --help\n"),
+            Failure::Refused(words) | Failure::File(words) => format!("livukoe: {words}\n"),
+            Failure::BrokenPipe => return,
+        };
+        let _ = io::stderr().write_all(line.as_bytes());
     }
 
     pub fn status(&self) -> ExitCode {
@@ -60,17 +61,6 @@ impl Failure {
             Failure::File(_) | Failure::BrokenPipe => 3,
         })
     }
-}
-
-/// Says on standard error what is no failure, but may be a slip.
-pub fn note(name: &OsStr, words: &str) {
-    say(&format!("{}: {words}", input(name)));
-}
-
-/// Says a line on standard error. Where nothing can be said, the status says it.
-fn say(words: &str) {
-    let line = format!("livukoe: {words}\n");
-    let _ = io::stderr().write_all(line.as_bytes());
 }
 
 fn input(name: &OsStr) -> String {

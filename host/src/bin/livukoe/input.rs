@@ -4,7 +4,7 @@ use std::ffi::OsStr;
 use std::fs::File;
 use std::io::{self, Read};
 
-use livukoe::{Plate, PlateFile, Plates, Record, Refusal, Roll};
+use livukoe::{Plate, Record, Refusal, Roll};
 
 use crate::arguments::Command;
 use crate::failure::Failure;
@@ -31,14 +31,6 @@ impl Input {
         Roll::from_bytes(&self.bytes)
     }
 
-    /// The plate of a roll of one.
-    pub fn only_plate(&self) -> Option<Plate> {
-        match self.goes_on() {
-            true => None,
-            false => Plate::from_pgm(&self.bytes).ok(),
-        }
-    }
-
     fn goes_on(&self) -> bool {
         self.bytes.len() as u64 > self.most
     }
@@ -60,17 +52,6 @@ pub fn read_roll(command: &Command) -> Result<Input, Failure> {
     read(&command.input, MOST_ROLL_BYTES, may_be_plate)
 }
 
-/// Judges all plates of a roll, and shows each to a visitor.
-pub fn each_plate(
-    command: &Command,
-    input: &Input,
-    mut visit: impl FnMut(PlateFile),
-) -> Result<(), Failure> {
-    let mut plates = input.roll().plates();
-    let answer = plates.try_for_each(|plate| plate.map(&mut visit));
-    judge_roll(command, input, answer, &plates)
-}
-
 /// What an operation answered on a roll. Where it refused, the first faulty plate is looked for.
 pub fn answered<T>(
     command: &Command,
@@ -81,16 +62,6 @@ pub fn answered<T>(
     if answer.is_err() {
         plates.by_ref().for_each(drop);
     }
-    judge_roll(command, input, answer, &plates)
-}
-
-/// An answer on a roll, of which these plates are left, the faulty one first.
-fn judge_roll<T>(
-    command: &Command,
-    input: &Input,
-    answer: Result<T, Refusal>,
-    plates: &Plates,
-) -> Result<T, Failure> {
     let (number, at) = (plates.number(), plates.at());
     let bytes = &input.bytes[at..];
     let later = number > 0 && !bytes.is_empty();
@@ -163,9 +134,8 @@ fn read(name: &OsStr, most: u64, wanted: fn(&[u8]) -> bool) -> Result<Input, Fai
         let mut bytes = Vec::new();
         (&file).take(FIRST_BYTES).read_to_end(&mut bytes)?;
         if wanted(&bytes) {
-            let length = file.metadata()?.len().min(most) + 1;
-            let more = length.saturating_sub(bytes.len() as u64);
-            bytes.try_reserve_exact(usize::try_from(more).unwrap_or(usize::MAX))?;
+            let length = file.metadata()?.len().min(most) as usize;
+            bytes.reserve_exact((length + 1).saturating_sub(bytes.len()));
             let more = most + 1 - FIRST_BYTES;
             (&file).take(more).read_to_end(&mut bytes)?;
         }
@@ -198,16 +168,10 @@ mod tests {
         };
         let bytes = bytes.to_vec();
         let input = Input { bytes, most };
-        let counted = answered(&command, &input, input.roll().count());
-        let walked = each_plate(&command, &input, |_| {});
-        match (counted, walked) {
-            (Ok(_), Ok(())) => String::new(),
-            (Err(Failure::Refused(one)), Err(Failure::Refused(other)))
-            | (Err(Failure::File(one)), Err(Failure::File(other))) => {
-                assert_eq!(one, other);
-                one
-            }
-            _ => panic!("the two differ"),
+        match answered(&command, &input, input.roll().count()) {
+            Ok(_) => String::new(),
+            Err(Failure::Refused(words) | Failure::File(words)) => words,
+            Err(_) => panic!("another failure"),
         }
     }
 

@@ -2,7 +2,6 @@
 
 use std::io::{self, IsTerminal, Write};
 use std::sync::mpsc::{self, RecvTimeoutError, Sender};
-use std::sync::{Arc, Mutex, MutexGuard, PoisonError};
 use std::thread::{self, JoinHandle};
 use std::time::{Duration, Instant};
 
@@ -12,24 +11,22 @@ const TICK: Duration = Duration::from_millis(200);
 
 /// Shows what is being done, and for how long, until it is dropped.
 pub struct Progress {
-    doing: Arc<Mutex<String>>,
     shown: Option<(Sender<()>, JoinHandle<()>)>,
 }
 
 impl Progress {
     /// Begins to show progress where standard error is a terminal.
     pub fn of(doing: String) -> Progress {
-        let doing = Arc::new(Mutex::new(doing));
-        let told = Arc::clone(&doing);
         let shown = io::stderr().is_terminal().then(|| {
             let (done, over) = mpsc::channel();
             let shower = thread::Builder::new().spawn(move || {
                 let began = Instant::now();
                 let mut wait = PATIENCE;
                 while let Err(RecvTimeoutError::Timeout) = over.recv_timeout(wait) {
-                    let doing = text(&told).clone();
-                    let seconds = began.elapsed().as_secs_f64();
-                    show(&format!("livukoe: {doing}, {seconds:.1} s"));
+                    show(&format!(
+                        "livukoe: {doing}, {:.1} s",
+                        began.elapsed().as_secs_f64()
+                    ));
                     wait = TICK;
                 }
                 if began.elapsed() >= PATIENCE {
@@ -39,22 +36,9 @@ impl Progress {
             Some((done, shower.ok()?)) // without a thread nothing is shown
         });
         Progress {
-            doing,
             shown: shown.flatten(),
         }
     }
-
-    /// Shows from now on that something else is being done.
-    pub fn now(&self, doing: impl FnOnce() -> String) {
-        if self.shown.is_some() {
-            *text(&self.doing) = doing();
-        }
-    }
-}
-
-/// What is being done. A thread that ends while it has it leaves it whole.
-fn text(doing: &Mutex<String>) -> MutexGuard<'_, String> {
-    doing.lock().unwrap_or_else(PoisonError::into_inner)
 }
 
 impl Drop for Progress {

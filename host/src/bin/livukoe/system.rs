@@ -80,8 +80,7 @@ fn remove_remembered() {
     }
 }
 
-/// A step that an interrupt waits for. Only the main thread takes steps. Another may run inside of one, but none when it
-/// begins or ends, nor beside `remember`.
+/// A step that an interrupt waits for. Only the main thread takes steps, and no other runs beside them.
 pub fn uninterrupted<T>(step: impl FnOnce() -> T) -> T {
     HELD.store(true, SeqCst);
     let answer = step();

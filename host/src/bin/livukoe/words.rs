@@ -64,8 +64,8 @@ pub fn of(refusal: Refusal, facts: &Facts) -> String {
         .and_then(|(_, words)| words(facts))
         .unwrap_or_else(|| refusal.meaning().to_owned());
     match &facts.place {
-        // the words of these two have the plate in them
-        Some(Place { number, at }) if !matches!(refusal, Refusal::Letters | Refusal::Limit) => {
+        // the words of this one have the plate in them
+        Some(Place { number, at }) if refusal != Refusal::Letters => {
             format!("plate {number}, which begins at byte {at}: {words}")
         }
         _ => words,
@@ -96,13 +96,9 @@ fn grid(facts: &Facts) -> Option<String> {
 fn limit(facts: &Facts) -> Option<String> {
     let (width, height) = facts.size?;
     let pixels = u64::from(width) * u64::from(height);
-    let place = facts.place.as_ref();
-    let plate = place.map_or(String::new(), |place| format!(" of plate {}", place.number));
     Some(match facts.limit.trim_start_matches('0') {
         "" => "the limit is 0; the least is 1".to_owned(),
-        limit => {
-            format!("the limit {limit} is above the {pixels} pixels{plate} ({width} x {height})")
-        }
+        limit => format!("the limit {limit} is above the {pixels} pixels ({width} x {height})"),
     })
 }
 
@@ -154,7 +150,7 @@ fn raster_long(facts: &Facts) -> Option<String> {
     let count = counted(left.len(), facts.goes_on);
     let Header { width, height, .. } = header;
     Some(if left.starts_with(b"P5") {
-        format!("a roll of several plates: {count} after the first ({width} x {height}) begin with P5; livukoe roll plate takes one out")
+        format!("a roll of several plates: {count} after the first ({width} x {height}) begin with P5; pamsplit parts them")
     } else {
         format!("{count} left over after the {}", pixels(&header))
     })

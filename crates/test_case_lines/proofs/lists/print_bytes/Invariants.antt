@@ -5,7 +5,7 @@ use native.Mathlib.Omega.{arith}
 use Rattle.test_case_lines.proofs.lists.print_bytes.Given as goal
 
 abbrev pub invariant-loop-i : goal.invariant-loop-i
-invariant-loop-i l = (l.i ≤ length l.list) × (l.run.count ≤ l.i)
+invariant-loop-i g l = (l.i ≤ length l.list) × (l.run.count ≤ l.i)
 
 abbrev pub decreases-loop-i : goal.decreases-loop-i
-decreases-loop-i l = length l.list - l.i
+decreases-loop-i g l = length l.list - l.i

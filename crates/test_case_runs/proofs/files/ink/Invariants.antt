@@ -6,7 +6,7 @@ use borrow.Author.Rules.{rules}
 use Rattle.test_case_runs.proofs.files.ink.Given as goal
 
 abbrev pub invariant-loop-i : goal.invariant-loop-i
-invariant-loop-i l = l.i ≤ length l.greys
+invariant-loop-i g l = l.i ≤ length l.greys
 
 abbrev pub decreases-loop-i : goal.decreases-loop-i
-decreases-loop-i l = length l.greys - l.i
+decreases-loop-i g l = length l.greys - l.i
