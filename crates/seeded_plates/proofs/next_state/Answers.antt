@@ -8,5 +8,5 @@ pub returns : goal.returns
 unfolding next_state
 returns c =
     let s = c.args.state in
-    c.wrapping_add_u32.ensures ∙ ap (λ (n : ℕ). (n + 1013904223) % 2 ^ 32) c.wrapping_mul.ensures
+    c.wrapping_add_u32.ensures.value ∙ ap (λ (n : ℕ). (n + 1013904223) % 2 ^ 32) c.wrapping_mul.ensures
     ∙ mod-add-mod (s * 1664525) (2 ^ 32) 1013904223
