@@ -1,5 +1,5 @@
 -- `seeded_plates::next_state` meets its contract: wrapping the product before the sum alters nothing.
-use Rattle.std.proofs.Common.{ℕ, ◌+◌, ◌*◌, ◌%◌, ◌^◌, ap, ◌∙◌, rules}
+use Rattle.std.proofs.Common.{ℕ, ◌+◌, ◌*◌, ◌%◌, ◌^◌, ap, ◌∙◌}
 use native.Mathlib.Nat.{mod-add-mod}
 use Rattle.seeded_plates.specs.Sequence.{next_state}
 use Rattle.seeded_plates.proofs.next_state.Goals as goal
