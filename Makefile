@@ -28,6 +28,13 @@ ARCHIVE := target/staticlib/liblivukoe.a
 SHARED := target/shared/liblivukoe.so.$(VERSION)
 TOOL := bin/livukoe
 
+# the archive of a crate, made once the crate is proved, put where C callers and cargo look for it
+define archive
+cd crates/$(1) && rt lib
+mkdir -p target/staticlib
+cmp -s crates/$(1)/out/lib$(1).a target/staticlib/lib$(1).a || cp crates/$(1)/out/lib$(1).a target/staticlib/
+endef
+
 # the command-line tool, bin/livukoe, and the libraries for C
 all: library shared
 	cargo build $(HOST) --release --quiet
@@ -36,7 +43,7 @@ all: library shared
 
 # the C functions, proved: target/staticlib/liblivukoe.a, for include/livukoe.h
 library: tools
-	rt staticlib livukoe
+	$(call archive,livukoe)
 
 # the same functions, and no other name, as a shared library: the archive's code is position independent
 shared: library
@@ -65,13 +72,13 @@ demo: all
 test: library reference
 	cargo test $(HOST) --quiet
 
-# the whole merge gate: every crate proved from nothing, every must-fail edit refused, every test
+# the whole merge gate: every crate proved, every must-fail edit refused, every test
 gate:
 	.ci/run
 
 # prove every crate that has changed
 check:
-	rt check
+	rt all check
 
 # the second program's own tests; the cases of `test_vectors` and its answers are as stored, and so is what each other program prints
 reference:
@@ -92,7 +99,7 @@ peers netpbm:
 
 # writes docs/BENCHMARKS.md and docs/benchmarks.svg; the engine on 16-bit greys is measured through an archive of its own
 bench: library
-	rt staticlib test_tree
+	$(call archive,test_tree)
 	cargo bench $(HOST) --bench peers -- --pixels $(BENCH_PIXELS) --peer-pixels $(PEER_PIXELS)
 
 # puts what `make` has built where others find it, and builds only what is missing
@@ -117,7 +124,7 @@ uninstall:
 	    $(addprefix $(LIBDIR)/,liblivukoe.a liblivukoe.so $(SONAME) liblivukoe.so.$(VERSION)))
 
 $(ARCHIVE):
-	rt staticlib livukoe
+	$(call archive,livukoe)
 
 $(TOOL):
 	@$(MAKE) --no-print-directory all
@@ -129,4 +136,4 @@ tools:
 	@command -v cc >/dev/null || { echo "cc, a C compiler, is not on the PATH"; exit 1; }
 
 clean:
-	rm -rf target bin reference/target host/target
+	rm -rf target bin reference/target host/target crates/*/out

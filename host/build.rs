@@ -1,5 +1,5 @@
-//! Says where the static library of the proved functions is: `rt staticlib livukoe` writes it under the
-//! repository's `target/`. `LIVUKOE_LIB_DIR` names another directory.
+//! Says where the static library of the proved functions is: `make library` puts it under the repository's `target/`.
+//! `LIVUKOE_LIB_DIR` names another directory.
 
 use std::env;
 use std::path::PathBuf;
@@ -9,7 +9,7 @@ fn main() {
     let archive = directory.join("liblivukoe.a");
     if !archive.is_file() {
         println!(
-            "cargo:warning={} is missing: run `rt staticlib livukoe` first",
+            "cargo:warning={} is missing: run `make library` first",
             archive.display()
         );
     }
@@ -18,7 +18,7 @@ fn main() {
     println!("cargo:rustc-link-search=native={}", directory.display());
     println!("cargo:rustc-link-lib=static=livukoe");
     println!("cargo:rerun-if-changed={}", archive.display());
-    // the benchmarks alone link a second archive, `rt staticlib test_tree`
+    // the benchmarks alone link a second archive, of the crate test_tree
     let second = directory.join("libtest_tree.a");
     if second.is_file() {
         println!("cargo:rerun-if-changed={}", second.display());
@@ -26,7 +26,7 @@ fn main() {
     println!("cargo:rerun-if-env-changed=LIVUKOE_LIB_DIR");
 }
 
-/// Where `rt staticlib` writes, seen from this crate.
+/// Where `make library` puts it, seen from this crate.
 fn built_here() -> PathBuf {
     PathBuf::from(env!("CARGO_MANIFEST_DIR")).join("../target/staticlib")
 }

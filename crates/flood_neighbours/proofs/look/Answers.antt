@@ -1,7 +1,5 @@
 -- `flood_neighbours::look` meets its contract.
-use mathlib.Core.Path.{refl}
 use native.Mathlib.Omega.{arith}
-use borrow.Author.Rules.{rules}
 use Rattle.flood_laws.proofs.Effects.{joinable}
 use Rattle.flood_laws.proofs.Looks.{look_inside, look_level, look_low, look_new, look_old, look_pushable, open_low, to_in}
 use Rattle.flood_neighbours.proofs.look.Goals as goal

@@ -5,7 +5,6 @@ use native.Mathlib.Omega.{arith}
 use lib.ListN.{set}
 use Rattle.flood_open_levels.specs.Words.{word_of}
 use Rattle.flood_open_levels.proofs.Bits.{shifted, added_fits}
-use borrow.Author.Rules.{rules}
 use Rattle.flood_open_levels.proofs.add.Goals as goal
 
 pub overflow_add-s : goal.overflow_add-s

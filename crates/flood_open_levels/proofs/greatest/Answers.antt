@@ -3,7 +3,6 @@ use Prim.Native.Nat.{◌+◌}
 use native.Mathlib.Omega.{arith}
 use Rattle.meaning.specs.Sets.{nth}
 use Rattle.flood_open_levels.proofs.Bits.{leading_bound, highest}
-use borrow.Author.Rules.{rules}
 use Rattle.flood_open_levels.proofs.greatest.Goals as goal
 
 pub overflow_cast-result : goal.overflow_cast-result

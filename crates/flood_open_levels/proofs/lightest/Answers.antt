@@ -1,6 +1,5 @@
 -- `flood_open_levels::lightest` meets its contract.
 use Rattle.flood_open_levels.proofs.Layered.{word_named, lightest_up_to}
-use borrow.Author.Rules.{rules}
 use Rattle.flood_open_levels.proofs.lightest.Goals as goal
 
 pub greatest-requires : goal.greatest-requires

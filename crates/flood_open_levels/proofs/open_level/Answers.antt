@@ -1,6 +1,5 @@
 -- `flood_open_levels::open_level` meets its contract.
 use Rattle.flood_open_levels.proofs.Opening.{asked, opened, asked₂, opened₂, asked₃, opened₃}
-use borrow.Author.Rules.{rules}
 use Rattle.flood_open_levels.proofs.open_level.Goals as goal
 
 pub add-requires : goal.add-requires

@@ -5,7 +5,6 @@ use native.Mathlib.Omega.{arith}
 use lib.ListN.{set}
 use Rattle.flood_open_levels.specs.Words.{word_of}
 use Rattle.flood_open_levels.proofs.Bits.{shifted, bit_at_least}
-use borrow.Author.Rules.{rules}
 use Rattle.flood_open_levels.proofs.remove.Goals as goal
 
 pub overflow_sub-x : goal.overflow_sub-x

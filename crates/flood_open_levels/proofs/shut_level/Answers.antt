@@ -2,7 +2,6 @@
 use native.Mathlib.Omega.{arith}
 use Rattle.flood_open_levels.proofs.Shutting.{small, asked, asked₂, asked₃, word_nonempty, middle_nonempty, root_nonempty, middle_nonempty₃}
 use Rattle.flood_open_levels.proofs.Shutting.{shut₁, shut₂, shut₀, shut₃}
-use borrow.Author.Rules.{rules}
 use Rattle.flood_open_levels.proofs.shut_level.Goals as goal
 
 pub remove-requires : goal.remove-requires

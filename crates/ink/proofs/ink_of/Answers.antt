@@ -1,5 +1,4 @@
 -- `ink::ink_of` meets its contract: what is rounded is the formula of the ink percentage.
-use borrow.Author.Rules.{rules}
 use Rattle.meaning.specs.Ink.{ink_of}
 use Rattle.ink.proofs.ink_of.Goals as goal
 

@@ -1,5 +1,4 @@
 -- `maxtree::build_tree` meets its contract: one stage after the other.
-use borrow.Author.Rules.{rules}
 use Rattle.maxtree.proofs.Stages.{built, floodable, in_range, leveled_ready, numberable}
 use Rattle.maxtree.proofs.build_tree.Goals as goal
 

@@ -1,10 +1,8 @@
 -- `maxtree_attribute::copy_areas` meets its contract. The invariant: the first i nodes have their areas.
 use mathlib.Core.Path.{◌≡◌}
-use Prim.Native.Nat.{◌-◌, ◌≤◌}
 use native.Mathlib.Omega.{arith}
 use Rattle.work_columns.proofs.Columns.{frame_room}
 use Rattle.maxtree_columns.proofs.Tree.{few_nodes}
-use Rattle.maxtree_attribute.specs.Attributes.{AreasCopied}
 use Rattle.maxtree_attribute.proofs.Marks.{copied_first, copied_more}
 use Rattle.maxtree_attribute.proofs.copy_areas.Goals as goal
 

@@ -1,6 +1,5 @@
 -- `maxtree_attribute::hand_mark` meets its contract.
 use native.Mathlib.Omega.{arith}
-use borrow.Author.Rules.{rules}
 use Rattle.maxtree_attribute.proofs.Raising.{handed_none, handed_store}
 use Rattle.maxtree_attribute.proofs.hand_mark.Goals as goal
 

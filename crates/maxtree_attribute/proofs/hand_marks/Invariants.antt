@@ -1,13 +1,8 @@
 -- `maxtree_attribute::hand_marks` meets its contract. The invariant: the nodes from i on have handed their marks on.
-use mathlib.Core.Path.{◌≡◌}
-use Prim.Native.Nat.{◌-◌, ◌≤◌}
-use native.Mathlib.Omega.{arith}
+use Prim.Native.Nat.{◌≤◌}
 use Rattle.work_columns.specs.Columns.{Only}
 use Rattle.work_columns.specs.Layout.{ATTRIBUTE, greys_in}
-use Rattle.work_columns.proofs.Columns.{only-refl, only_trans}
-use Rattle.maxtree_columns.proofs.Tree.{few_nodes, parent_earlier, some-nodes}
 use Rattle.maxtree_attribute.specs.Attributes.{Raised}
-use Rattle.maxtree_attribute.proofs.Raising.{raised_done, raised_next}
 use Rattle.maxtree_attribute.proofs.hand_marks.Given as goal
 
 abbrev pub invariant-loop-i : goal.invariant-loop-i

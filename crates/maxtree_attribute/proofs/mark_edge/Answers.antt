@@ -1,6 +1,5 @@
 -- `maxtree_attribute::mark_edge` meets its contract.
 use native.Mathlib.Omega.{arith}
-use borrow.Author.Rules.{rules}
 use Rattle.work_columns.proofs.Columns.{only_trans}
 use Rattle.maxtree_attribute.proofs.Edge.{edge_marked, first-column, first-row, last_column, last_row, row_fits, wide}
 use Rattle.maxtree_attribute.proofs.Marks.{line_kept}

@@ -1,9 +1,6 @@
 -- `maxtree_attribute::mark_line` meets its contract. The invariant: the own nodes of the first i pixels of the line are marked.
-use mathlib.Core.Path.{◌≡◌}
-use Prim.Native.Nat.{◌+◌, ◌-◌, ◌*◌, ◌≤◌}
-use native.Mathlib.Omega.{arith}
+use Prim.Native.Nat.{◌-◌, ◌≤◌}
 use Rattle.maxtree_attribute.specs.Attributes.{Marked, OnLine}
-use Rattle.maxtree_attribute.proofs.Marks.{line_first, line_kept, line-more}
 use Rattle.maxtree_attribute.proofs.mark_line.Given as goal
 
 abbrev pub invariant-loop-i : goal.invariant-loop-i

@@ -1,5 +1,4 @@
 -- `maxtree_attribute::set_attributes` meets its contract.
-use borrow.Author.Rules.{rules}
 use Rattle.maxtree_columns.proofs.Tree.{tree_here, tree_marked}
 use Rattle.maxtree_attribute.proofs.Raising.{attributes_set, raised_first, raised_here}
 use Rattle.maxtree_attribute.proofs.set_attributes.Goals as goal

@@ -1,7 +1,6 @@
 -- `maxtree_values::climb` meets its contract.
 use mathlib.Core.Path.{sym, ◌∙◌}
-use native.Mathlib.Omega.{arith}
-use Rattle.maxtree_values.proofs.Cuts.{climbable_parent, climbed_here, climbed_parent, climbed_stored, parent_first}
+use Rattle.maxtree_values.proofs.Cuts.{climbed_parent}
 use Rattle.maxtree_values.proofs.+climb.Goals as goal
 
 pub returns : goal.returns

@@ -1,9 +1,7 @@
 -- `maxtree_values::cut_values` meets its contract. The invariant: the first i nodes have their values in the cut.
 use Prim.Native.Nat.{◌-◌}
-use native.Mathlib.Omega.{arith}
 use Rattle.work_columns.specs.Layout.{greys_in}
-use Rattle.maxtree_columns.proofs.Tree.{attributed_here, few_nodes}
-use Rattle.maxtree_values.proofs.Cuts.{Cutting, cut-done, cutting_climbable, cutting_first, cutting_more}
+use Rattle.maxtree_values.proofs.Cuts.{Cutting}
 use Rattle.maxtree_values.proofs.cut_values.Given as goal
 
 abbrev pub invariant-loop-i : goal.invariant-loop-i

@@ -1,10 +1,8 @@
 -- `maxtree_values::mark_leaves` meets its contract. The invariant: a node has the value 0 where a node below i has it as its parent, else 1.
-use Prim.Native.Nat.{◌-◌, ◌≤◌}
 use native.Mathlib.Omega.{arith}
 use Rattle.work_columns.proofs.Columns.{only_store}
-use Rattle.maxtree_columns.specs.Tree.{TreeStands}
 use Rattle.maxtree_columns.proofs.Tree.{few_nodes, parent_earlier, some-nodes, tree_here, tree_valued}
-use Rattle.maxtree_values.proofs.Leaves.{Marking, marking_done, marking_first, marking_more}
+use Rattle.maxtree_values.proofs.Leaves.{marking_done, marking_first, marking_more}
 use Rattle.maxtree_values.proofs.mark_leaves.Goals as goal
 
 pub set_ones-requires : goal.set_ones-requires

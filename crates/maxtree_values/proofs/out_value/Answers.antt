@@ -1,6 +1,5 @@
 -- `maxtree_values::out_value` meets its contract.
 use native.Mathlib.Omega.{arith}
-use borrow.Author.Rules.{rules}
 use Rattle.maxtree_values.proofs.out_value.Goals as goal
 
 pub get-value-requires : goal.get-value-requires

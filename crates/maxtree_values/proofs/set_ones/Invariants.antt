@@ -1,11 +1,6 @@
 -- `maxtree_values::set_ones` meets its contract. The invariant: the first i nodes have the value 1.
-use mathlib.Core.Path.{◌≡◌}
 use Prim.Native.Nat.{◌-◌, ◌≤◌}
-use native.Mathlib.Omega.{arith}
-use Rattle.work_columns.proofs.Columns.{frame_room}
-use Rattle.maxtree_columns.proofs.Tree.{few_nodes}
 use Rattle.maxtree_values.specs.Values.{Ones}
-use Rattle.maxtree_values.proofs.Leaves.{ones-first, ones-more}
 use Rattle.maxtree_values.proofs.set_ones.Given as goal
 
 abbrev pub invariant-loop-i : goal.invariant-loop-i

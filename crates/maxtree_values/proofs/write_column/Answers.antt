@@ -1,9 +1,7 @@
 -- `maxtree_values::write_column` meets its contract. The invariant: the first i entries are written, and the others are as they were.
 use mathlib.Core.Path.{◌≡◌, refl}
-use mathlib.Core.List.{◌++◌}
-use Prim.Native.Nat.{◌-◌, ◌≤◌}
 use native.Mathlib.Omega.{arith}
-use lib.ListN.{length, drop, length-set}
+use lib.ListN.{length-set}
 use Rattle.meaning.specs.Sets.{span, table}
 use Rattle.theory_lists.proofs.Written.{written-more, written_over}
 use Rattle.work_columns.specs.Columns.{col}

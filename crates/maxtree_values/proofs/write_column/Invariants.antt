@@ -1,11 +1,9 @@
 -- `maxtree_values::write_column` meets its contract. The invariant: the first i entries are written, and the others are as they were.
-use mathlib.Core.Path.{◌≡◌, refl}
+use mathlib.Core.Path.{◌≡◌}
 use mathlib.Core.List.{◌++◌}
 use Prim.Native.Nat.{◌-◌, ◌≤◌}
-use native.Mathlib.Omega.{arith}
-use lib.ListN.{length, drop, length-set}
-use Rattle.meaning.specs.Sets.{span, table}
-use Rattle.theory_lists.proofs.Written.{written-more, written_over}
+use lib.ListN.{length, drop}
+use Rattle.meaning.specs.Sets.{table}
 use Rattle.work_columns.specs.Columns.{col}
 use Rattle.maxtree_values.proofs.write_column.Given as goal
 

@@ -1,14 +1,11 @@
 -- `maxtree_values::write_values` meets its contract. The invariant: the first p values are written, and the others are as they were.
-use mathlib.Core.Path.{◌≡◌, refl}
+use mathlib.Core.Path.{◌≡◌}
 use mathlib.Core.Bool.{Bool}
 use mathlib.Core.List.{List, ◌++◌}
 use Prim.Native.Nat.{ℕ, ◌-◌, ◌≤◌}
-use native.Mathlib.Omega.{arith}
-use lib.ListN.{length, drop, length-set}
-use Rattle.meaning.specs.Sets.{span, table}
-use Rattle.theory_lists.proofs.Written.{written-more, written_over}
+use lib.ListN.{length, drop}
+use Rattle.meaning.specs.Sets.{table}
 use Rattle.plate_greys.specs.Sides.{side_grey}
-use Rattle.plate_greys.proofs.Sides.{side_plate_table}
 use Rattle.maxtree_values.specs.Values.{value_at}
 use Rattle.maxtree_values.proofs.write_values.Given as goal
 

@@ -2,7 +2,6 @@
 use mathlib.Core.Path.{◌≡◌}
 use mathlib.Core.List.{List}
 use Prim.Native.Nat.{ℕ}
-use borrow.Author.Rules.{rules}
 use lib.ListN.{length, drop}
 use Rattle.pgm.specs.File.{raster_refusal}
 use Rattle.theory_lists.proofs.Lists.{take_rest}

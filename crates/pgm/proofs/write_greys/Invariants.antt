@@ -1,9 +1,7 @@
 -- `pgm::write_greys` meets its contract: the greys that are written so far are pasted over the output.
-use Prim.Native.Nat.{◌-◌, ◌<◌}
-use native.Mathlib.Omega.{arith}
-use lib.ListN.{length}
+use Prim.Native.Nat.{◌-◌}
 use Rattle.pgm.specs.File.{greys_of}
-use Rattle.pgm.proofs.Writing.{Writing, writing_first, writing_more, writing_done}
+use Rattle.pgm.proofs.Writing.{Writing}
 use Rattle.pgm.proofs.write_greys.Given as goal
 
 abbrev pub invariant-loop-p : goal.invariant-loop-p

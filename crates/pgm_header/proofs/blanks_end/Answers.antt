@@ -1,11 +1,8 @@
 -- The first byte that is no blank, found by a loop.
 use mathlib.Core.Path.{sym, ◌∙◌}
-use Prim.Native.Nat.{◌-◌}
-use native.Mathlib.Omega.{arith}
 use borrow.Author.Tests.{not-true, not-false}
-use lib.ListN.{length}
 use Rattle.pgm_header.specs.Grammar.{blank}
-use Rattle.pgm_header.proofs.Front.{Passed, passed_first, passed_more, passed_stop, passed_end}
+use Rattle.pgm_header.proofs.Front.{passed_first, passed_more, passed_stop, passed_end}
 use Rattle.pgm_header.proofs.blanks_end.Goals as goal
 use mathlib.Core.Path.{ap}
 use mathlib.Core.Bool.{not}

@@ -1,11 +1,8 @@
 -- The first CR or LF, found by a loop.
 use mathlib.Core.Path.{sym, ap, ◌∙◌}
 use mathlib.Core.Bool.{not}
-use Prim.Native.Nat.{◌-◌}
-use native.Mathlib.Omega.{arith}
-use lib.ListN.{length}
 use Rattle.pgm_header.specs.Grammar.{in_comment}
-use Rattle.pgm_header.proofs.Front.{Passed, passed_first, passed_more, passed_stop, passed_end}
+use Rattle.pgm_header.proofs.Front.{passed_first, passed_more, passed_stop, passed_end}
 use Rattle.pgm_header.proofs.comment_end.Goals as goal
 
 pub loop-i-init : goal.loop-i-init

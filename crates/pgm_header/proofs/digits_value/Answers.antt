@@ -1,7 +1,6 @@
 -- The loop that works a number out, digit by digit.
-use Prim.Native.Nat.{◌-◌}
 use native.Mathlib.Omega.{arith}
-use Rattle.pgm_header.proofs.Digits.{Spelling, spelling_first, spelling_small, spelling_within, spelling_digit, spelling_more, spelling_done}
+use Rattle.pgm_header.proofs.Digits.{spelling_first, spelling_small, spelling_within, spelling_digit, spelling_more, spelling_done}
 use Rattle.pgm_header.proofs.digits_value.Goals as goal
 
 pub loop-i-init : goal.loop-i-init

@@ -1,10 +1,6 @@
 -- `pgm_write::put_bytes` meets its contract. The invariant: the bytes of p pixels are put.
-use mathlib.Core.Path.{refl}
 use Prim.Native.Nat.{◌-◌}
-use native.Mathlib.Omega.{arith}
-use Rattle.meaning.specs.Plate.{byte_greatest}
-use Rattle.plate_refusals.proofs.Refusals.{none_above}
-use Rattle.text_lines.proofs.Pieces.{Putting, putting_done, putting_more}
+use Rattle.text_lines.proofs.Pieces.{Putting}
 use Rattle.pgm_write.proofs.put_bytes.Given as goal
 
 abbrev pub invariant-loop-p : goal.invariant-loop-p

@@ -1,6 +1,5 @@
 -- `pgm_write::put_header` meets its contract: the three lines are put one after the other.
 use native.Mathlib.Omega.{arith}
-use borrow.Author.Rules.{rules}
 use Rattle.text_lines.proofs.Pieces.{and-field, begin, end_line, put_put}
 use Rattle.pgm.specs.Text.{bytes}
 use Rattle.pgm_write.specs.Writing.{header_lines}

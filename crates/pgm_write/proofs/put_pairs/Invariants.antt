@@ -1,11 +1,7 @@
 -- `pgm_write::put_pairs` meets its contract. The invariant: the two bytes of each of p pixels are put.
-use mathlib.Core.Path.{◌≡◌, refl}
-use Prim.Native.Nat.{◌+◌, ◌-◌, ◌*◌, ◌<◌}
-use native.Mathlib.Omega.{arith}
-use lib.ListN.{length, length-set}
-use Rattle.text_lines.proofs.Pieces.{Putting, putting_done, putting_more}
+use Prim.Native.Nat.{◌-◌, ◌*◌}
+use Rattle.text_lines.proofs.Pieces.{Putting}
 use Rattle.pgm_write.specs.Writing.{byte_pairs}
-use Rattle.pgm_write.proofs.Rasters.{byte_pairs_high, byte_pairs-length, byte_pairs_low}
 use Rattle.pgm_write.proofs.put_pairs.Given as goal
 
 abbrev pub invariant-loop-p : goal.invariant-loop-p

@@ -1,7 +1,6 @@
 -- `pgm_write::put_raster` meets its contract: one byte a pixel, or two.
 use mathlib.Core.Path.{ap}
 use native.Mathlib.Omega.{arith}
-use borrow.Author.Rules.{rules}
 use lib.ListN.{length}
 use Rattle.pgm_write.proofs.Rasters.{bytes_low, byte_pairs-length, raster_bytes_lem, raster_pairs}
 use Rattle.pgm_write.proofs.put_raster.Goals as goal

@@ -1,5 +1,4 @@
 -- `plate_entries::end_list` meets its contract.
-use borrow.Author.Rules.{rules}
 use borrow.Author.Tests.{ne_eqb}
 use Rattle.plate_entries.proofs.end_list.Goals as goal
 

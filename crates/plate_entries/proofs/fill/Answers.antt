@@ -1,5 +1,5 @@
 -- `plate_entries::fill` meets its contract: each turn writes one entry more.
-use Rattle.std.proofs.Common.{◌≡◌, ◌<◌, length, sym, arith}
+use Rattle.std.proofs.Common.{◌<◌, length, sym, arith}
 use Rattle.plate_entries.specs.Entries.{standing}
 use Rattle.plate_entries.proofs.Lists.{filled_more, filled_none}
 use Rattle.plate_entries.proofs.fill.Goals as goal

@@ -1,5 +1,4 @@
 -- `plate_entries::standing` meets its contract.
-use borrow.Author.Rules.{rules}
 use Rattle.plate_entries.specs.Entries.{standing}
 use Rattle.plate_entries.proofs.standing.Goals as goal
 

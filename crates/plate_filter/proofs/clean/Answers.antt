@@ -2,7 +2,6 @@
 use mathlib.Core.Path.{refl, sym, ◌∙◌}
 use Prim.Native.Nat.{◌≤◌}
 use native.Mathlib.Omega.{arith}
-use borrow.Author.Rules.{rules}
 use lib.ListN.{length}
 use Rattle.maxtree_columns.proofs.Tree.{tree_here}
 use Rattle.plate_refusals.proofs.Refusals.{Filterable, clean_none}

@@ -1,5 +1,4 @@
 -- `plate_filter::node_list` meets its contract.
-use borrow.Author.Rules.{rules}
 use Rattle.plate_filter.specs.Operations.{Columns, columns}
 use Rattle.plate_filter.proofs.NodeLists.{listed_done, listed_lent, listed_refused}
 use Rattle.plate_filter.proofs.node_list.Goals as goal

@@ -1,7 +1,6 @@
 -- `plate_filter::regional_maxima` meets its contract.
 use mathlib.Core.Path.{sym, ◌∙◌}
 use native.Mathlib.Omega.{arith}
-use borrow.Author.Rules.{rules}
 use lib.ListN.{length}
 use Rattle.maxtree_columns.proofs.Tree.{tree_here}
 use Rattle.plate_refusals.proofs.Refusals.{Markable, maxima_none}

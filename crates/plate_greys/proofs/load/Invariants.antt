@@ -1,8 +1,6 @@
 -- `plate_greys::load` meets its contract. The invariant: the first p greys are copied in.
 use Prim.Native.Nat.{◌-◌}
-use native.Mathlib.Omega.{arith}
-use Rattle.work_columns.proofs.Columns.{before, frame_room}
-use Rattle.plate_greys.proofs.Sides.{Loading, loading_done, loading_first, loading_more}
+use Rattle.plate_greys.proofs.Sides.{Loading}
 use Rattle.plate_greys.proofs.load.Given as goal
 
 abbrev pub invariant-loop-p : goal.invariant-loop-p

@@ -1,6 +1,5 @@
 -- `plate_greys::side_grey` meets its contract.
 use native.Mathlib.Omega.{arith}
-use borrow.Author.Rules.{rules}
 use Rattle.plate_greys.proofs.side_grey.Goals as goal
 
 pub returns-then-negated : goal.returns-then-negated

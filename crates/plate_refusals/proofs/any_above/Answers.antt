@@ -1,6 +1,6 @@
 -- `plate_refusals::any_above` meets its contract. The invariant: none of the first p greys is above the greatest.
 use mathlib.Core.Path.{sym}
-use Prim.Native.Nat.{ℕ, ◌-◌, ◌≤◌, ◌<◌}
+use Prim.Native.Nat.{ℕ, ◌≤◌}
 use native.Mathlib.Omega.{arith}
 use Rattle.meaning.specs.Plate.{grey}
 use Rattle.theory_lists.proofs.Sets.{below_suc}

@@ -1,6 +1,5 @@
 -- `plate_refusals::clean_refusal` meets its contract.
 use mathlib.Core.Path.{sym, ◌∙◌}
-use borrow.Author.Rules.{rules}
 use borrow.Author.Tests.{not-false, not-true}
 use Rattle.meaning.specs.Answers.{clean_refusal}
 use Rattle.plate_refusals.proofs.clean_refusal.Goals as goal

@@ -1,6 +1,5 @@
 -- `plate_refusals::cut_refusal` meets its contract.
 use mathlib.Core.Path.{sym, ◌∙◌}
-use borrow.Author.Rules.{rules}
 use borrow.Author.Tests.{not-true, not-false}
 use Rattle.plate_refusals.proofs.cut_refusal.Goals as goal
 use mathlib.Core.Path.{ap}

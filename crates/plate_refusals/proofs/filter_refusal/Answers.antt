@@ -1,5 +1,4 @@
 -- `plate_refusals::filter_refusal` meets its contract.
-use borrow.Author.Rules.{rules}
 use Rattle.plate_refusals.proofs.Refusals.{filter_output, filter_plate, filter_space}
 use Rattle.plate_refusals.proofs.filter_refusal.Goals as goal
 

@@ -1,7 +1,6 @@
 -- `plate_refusals::grid_fits` meets its contract: the product of a width and a height that fit does not overflow.
 use mathlib.Core.Path.{sym, ◌∙◌}
 use native.Mathlib.Omega.{arith}
-use borrow.Author.Rules.{rules}
 use Rattle.meaning.specs.Plate.{grid_fits}
 use Rattle.theory_connectivity.proofs.Sizes.{product, extent_is}
 use Rattle.plate_refusals.proofs.grid_fits.Goals as goal

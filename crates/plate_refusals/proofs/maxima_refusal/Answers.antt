@@ -1,5 +1,4 @@
 -- `plate_refusals::maxima_refusal` meets its contract.
-use borrow.Author.Rules.{rules}
 use Rattle.plate_refusals.proofs.Refusals.{maxima_output, maxima_plate, maxima_space}
 use Rattle.plate_refusals.proofs.maxima_refusal.Goals as goal
 

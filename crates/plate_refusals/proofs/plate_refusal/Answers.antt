@@ -1,6 +1,5 @@
 -- `plate_refusals::plate_refusal` meets its contract.
 use mathlib.Core.Path.{sym, ◌∙◌}
-use borrow.Author.Rules.{rules}
 use borrow.Author.Tests.{not-true, not-false}
 use Rattle.plate_refusals.proofs.plate_refusal.Goals as goal
 use mathlib.Core.Path.{ap}

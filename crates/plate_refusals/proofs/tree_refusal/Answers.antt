@@ -1,7 +1,6 @@
 -- `plate_refusals::tree_refusal` meets its contract.
 use mathlib.Core.Path.{sym, ◌∙◌}
 use Prim.Native.Nat.{ℕ, ◌*◌}
-use borrow.Author.Rules.{rules}
 use Rattle.meaning.specs.Answers.{work_refusal}
 use Rattle.plate_refusals.proofs.Refusals.{decided, plate_chain, plate_later, plate_taken}
 use Rattle.plate_refusals.proofs.tree_refusal.Goals as goal

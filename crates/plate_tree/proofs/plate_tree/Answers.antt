@@ -1,5 +1,4 @@
 -- `plate_tree::plate_tree` meets its contract.
-use borrow.Author.Rules.{rules}
 use Rattle.plate_tree.proofs.Building.{tree_stands, ready_buildable, ready_loadable}
 use Rattle.plate_tree.proofs.plate_tree.Goals as goal
 

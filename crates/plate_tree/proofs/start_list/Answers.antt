@@ -1,6 +1,5 @@
 -- `plate_tree::start_list` meets its contract.
 use native.Mathlib.Omega.{arith}
-use borrow.Author.Rules.{rules}
 use Rattle.plate_tree.proofs.Starting.{started_count, started_done, started_ready, started_refused, started_room, started_short}
 use Rattle.plate_tree.proofs.start_list.Goals as goal
 

@@ -1,8 +1,7 @@
 -- `record_fields::measure` meets its contract. The invariant: the first i fields are measured.
-use Prim.Native.Nat.{◌+◌, ◌*◌, ◌-◌}
 use native.Mathlib.Omega.{arith}
 use Rattle.record_varint.proofs.Groups.{varint-most}
-use Rattle.record_varint.proofs.Loops.{Measured, measured_first}
+use Rattle.record_varint.proofs.Loops.{measured_first}
 use Rattle.record_fields.specs.Fields.{column_fields}
 use Rattle.record_fields.proofs.Fields.{column_few}
 use Rattle.record_fields.proofs.Loops.{measuring_done, measuring_more}

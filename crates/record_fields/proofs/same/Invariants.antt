@@ -1,12 +1,8 @@
 -- `record_fields::same` meets its contract. The invariant: the bytes begin with the form's first i fields.
 use Prim.Native.Nat.{◌-◌}
-use native.Mathlib.Omega.{arith}
-use borrow.Author.Rules.{rules}
 use lib.ListN.{drop}
-use Rattle.record_varint.proofs.Loops.{Matched, matched_first}
+use Rattle.record_varint.proofs.Loops.{Matched}
 use Rattle.record_fields.specs.Fields.{column_fields, first_field}
-use Rattle.record_fields.proofs.Fields.{column_few}
-use Rattle.record_fields.proofs.Loops.{comparing_differs, comparing_done, comparing_more, first_few}
 use Rattle.record_fields.proofs.same.Given as goal
 
 abbrev pub invariant-loop-i : goal.invariant-loop-i

@@ -1,7 +1,6 @@
 -- `record_fields::write` meets its contract. The invariant: the first i fields are written.
-use Prim.Native.Nat.{◌+◌, ◌*◌, ◌-◌}
 use native.Mathlib.Omega.{arith}
-use Rattle.record_varint.proofs.Loops.{Wrote, wrote_first}
+use Rattle.record_varint.proofs.Loops.{wrote_first}
 use Rattle.record_fields.specs.Fields.{column_fields}
 use Rattle.record_fields.proofs.Fields.{column_few}
 use Rattle.record_fields.proofs.Loops.{writing_done, writing_more, writing_room}

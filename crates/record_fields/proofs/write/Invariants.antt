@@ -1,10 +1,7 @@
 -- `record_fields::write` meets its contract. The invariant: the first i fields are written.
 use Prim.Native.Nat.{◌+◌, ◌*◌, ◌-◌}
-use native.Mathlib.Omega.{arith}
-use Rattle.record_varint.proofs.Loops.{Wrote, wrote_first}
+use Rattle.record_varint.proofs.Loops.{Wrote}
 use Rattle.record_fields.specs.Fields.{column_fields}
-use Rattle.record_fields.proofs.Fields.{column_few}
-use Rattle.record_fields.proofs.Loops.{writing_done, writing_more, writing_room}
 use Rattle.record_fields.proofs.write.Given as goal
 
 abbrev pub invariant-loop-i : goal.invariant-loop-i

@@ -1,9 +1,7 @@
 -- `record_parse::parse_plate` meets its contract: at each return the fields read so far say what `from_height` has come to.
-use Rattle.std.proofs.Common.{rules, ◌≡◌, sym, ap, ◌∙◌, ◌*◌, true, length, not}
-use borrow.Author.Tests.{not-true, not-false}
+use Rattle.std.proofs.Common.{sym, ◌∙◌, ◌*◌, true, length}
 use Rattle.meaning.specs.Plate.{connectivity_fits}
 use Rattle.plate_refusals.proofs.Refusals.{work_none}
-use Rattle.work_columns.specs.Columns.{Room}
 use Rattle.record_parse.specs.Parse.{from_height}
 use Rattle.record_parse.proofs.Fields.{took, stopped}
 use Rattle.record_parse.proofs.Record.{after_connectivity, after_count, after_height, begun}

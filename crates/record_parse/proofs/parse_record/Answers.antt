@@ -1,5 +1,5 @@
 -- `record_parse::parse_record` meets its contract: at each return the fields read so far say what `parse` has come to.
-use Rattle.std.proofs.Common.{rules, ◌≡◌, sym, ◌∙◌, length}
+use Rattle.std.proofs.Common.{sym, ◌∙◌, length}
 use Rattle.record_parse.specs.Parse.{parse}
 use Rattle.record_parse.proofs.Fields.{took, stopped}
 use Rattle.record_parse.proofs.Record.{after_greatest, after_version, after_width, early_answer, form_stops, greatest_stops, new_form, old_form}

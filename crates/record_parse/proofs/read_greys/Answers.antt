@@ -1,5 +1,5 @@
 -- `record_parse::read_greys` meets its contract. The invariant: the greys so far, ahead of what is left, are what the whole gives (`GreysLeft`).
-use Rattle.std.proofs.Common.{rules, refl, ◌-◌, arith}
+use Rattle.std.proofs.Common.{refl, ◌-◌, arith}
 use Rattle.work_columns.proofs.Columns.{frame_room}
 use Rattle.record_parse.proofs.Fields.{took, stopped}
 use Rattle.record_parse.proofs.Greys.{greys_first, greys_more, greys_stop, greys_done}

@@ -1,11 +1,7 @@
 -- `record_parse::read_greys` meets its contract. The invariant: the greys so far, ahead of what is left, are what the whole gives (`GreysLeft`).
-use mathlib.Core.Path.{◌≡◌, refl}
+use mathlib.Core.Path.{◌≡◌}
 use Prim.Native.Nat.{◌-◌}
-use native.Mathlib.Omega.{arith}
-use borrow.Author.Rules.{rules}
-use Rattle.work_columns.proofs.Columns.{frame_room}
-use Rattle.record_parse.proofs.Fields.{Took, took, stopped}
-use Rattle.record_parse.proofs.Greys.{GreysLeft, greys_first, greys_more, greys_stop, greys_done}
+use Rattle.record_parse.proofs.Greys.{GreysLeft}
 use Rattle.record_parse.proofs.read_greys.Given as goal
 
 abbrev pub invariant-loop-p : goal.invariant-loop-p

@@ -1,5 +1,5 @@
 -- `record_parse::read_node` meets its contract: at each return the fields read so far say which case of `levels_from` holds.
-use Rattle.std.proofs.Common.{rules, ◌-◌, arith}
+use Rattle.std.proofs.Common.{◌-◌, arith}
 use Rattle.record_parse.proofs.Fields.{took, stopped}
 use Rattle.record_parse.proofs.Nodes.{level_fits, rise_fits, node_stops₁, node_stops₂, node_stops₃, node_stores}
 use Rattle.record_parse.proofs.read_node.Goals as goal

@@ -1,8 +1,6 @@
 -- `record_parse::read_nodes` meets its contract. The invariant: what is left gives what the whole gives (`NodesLeft`).
-use Prim.Native.Nat.{◌-◌}
 use native.Mathlib.Omega.{arith}
-use borrow.Author.Rules.{rules}
-use Rattle.record_parse.proofs.Nodes.{NodesLeft, nodes-first, nodes-more, nodes-stop, nodes-done}
+use Rattle.record_parse.proofs.Nodes.{nodes-first, nodes-more, nodes-stop, nodes-done}
 use Rattle.record_parse.proofs.read_nodes.Goals as goal
 
 pub loop-i-init : goal.loop-i-init

@@ -1,5 +1,5 @@
 -- `record_parse::read_tree_fields` meets its contract: what was read so far says which case of `from_root` holds.
-use Rattle.std.proofs.Common.{rules, arith}
+use Rattle.std.proofs.Common.{arith}
 use Rattle.record_parse.proofs.Fields.{took, stopped}
 use Rattle.record_parse.proofs.Tree.{rooted, root_known, tree_stops₁, tree_stops₂, tree_stops₃, tree_stops₄, tree_left, tree_done}
 use Rattle.record_parse.proofs.read_tree_fields.Goals as goal

@@ -1,8 +1,8 @@
 -- `record_sizes::add_loss` meets its contract.
 use mathlib.Core.Path.{refl, ap}
-use Prim.Native.Nat.{ℕ, ◌+◌, ◌-◌, ◌≤◌, ◌<◌}
+use Prim.Native.Nat.{ℕ, ◌+◌, ◌-◌}
 use native.Mathlib.Omega.{arith}
-use lib.ListN.{length, get_or, length-set}
+use lib.ListN.{get_or, length-set}
 use Rattle.maxtree_columns.proofs.Tree.{few_nodes}
 use Rattle.record_sizes.specs.Sizes.{loss_of, most_lost}
 use Rattle.record_sizes.proofs.Listing.{added, added_low, added_past, added_place, inner, loss_low}

@@ -1,7 +1,6 @@
 -- `record_sizes::clear_tables` meets its contract. The invariant: the first i entries are zero, and the others are as they were.
-use Prim.Native.Nat.{◌-◌, ◌≤◌}
 use native.Mathlib.Omega.{arith}
-use Rattle.record_sizes.proofs.Listing.{Zeroed, zeroed_done, zeroed_first, zeroed_more}
+use Rattle.record_sizes.proofs.Listing.{zeroed_done, zeroed_first, zeroed_more}
 use Rattle.record_sizes.proofs.clear_tables.Goals as goal
 
 pub loop-i-init : goal.loop-i-init

@@ -1,7 +1,6 @@
 -- `record_sizes::clear_tables` meets its contract. The invariant: the first i entries are zero, and the others are as they were.
 use Prim.Native.Nat.{◌-◌, ◌≤◌}
-use native.Mathlib.Omega.{arith}
-use Rattle.record_sizes.proofs.Listing.{Zeroed, zeroed_done, zeroed_first, zeroed_more}
+use Rattle.record_sizes.proofs.Listing.{Zeroed}
 use Rattle.record_sizes.proofs.clear_tables.Given as goal
 
 abbrev pub invariant-loop-i : goal.invariant-loop-i

@@ -1,8 +1,7 @@
 -- `record_sizes::count_node` meets its contract.
 use mathlib.Core.Path.{refl}
-use Prim.Native.Nat.{◌-◌, ◌≤◌, ◌<◌}
 use native.Mathlib.Omega.{arith}
-use lib.ListN.{length, length-set}
+use lib.ListN.{length-set}
 use Rattle.maxtree_columns.proofs.Tree.{few_nodes}
 use Rattle.record_sizes.specs.Sizes.{ones}
 use Rattle.record_sizes.proofs.Listing.{added, added_low, added_past, added_place}

@@ -1,7 +1,6 @@
 -- `record_sizes::darkest_of` meets its contract.
 use mathlib.Core.Path.{◌∙◌}
 use native.Mathlib.Omega.{arith}
-use borrow.Author.Rules.{rules}
 use Rattle.maxtree_columns.proofs.Tree.{few_nodes, root-darkest, some-nodes}
 use Rattle.record_sizes.proofs.darkest_of.Goals as goal
 

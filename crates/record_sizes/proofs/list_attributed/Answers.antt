@@ -1,7 +1,6 @@
 -- `record_sizes::list_attributed` meets its contract.
 use Prim.Native.Nat.{ℕ}
 use native.Mathlib.Omega.{arith}
-use borrow.Author.Rules.{rules}
 use Rattle.maxtree_columns.proofs.Tree.{few_nodes, some-nodes}
 use Rattle.record_sizes.specs.Sizes.{loss_of, ones}
 use Rattle.record_sizes.proofs.Listing.{listed_counts, listed_losses, listing_over, tallying_zero}

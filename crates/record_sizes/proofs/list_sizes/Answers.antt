@@ -1,7 +1,6 @@
 -- `record_sizes::list_sizes` meets its contract.
 use mathlib.Core.List.{List}
 use Prim.Native.Nat.{ℕ}
-use borrow.Author.Rules.{rules}
 use Rattle.work_columns.specs.Layout.{greys_in}
 use Rattle.work_columns.specs.declared.Shape.{Shape}
 use Rattle.maxtree_columns.proofs.Tree.{attributed_here, tree_plate}

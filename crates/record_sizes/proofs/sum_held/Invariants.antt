@@ -1,8 +1,6 @@
 -- `record_sizes::sum_held` meets its contract. The invariant: the sum is the grey held with the nodes from 1 to j - 1.
 use Prim.Native.Nat.{◌-◌}
-use native.Mathlib.Omega.{arith}
-use Rattle.maxtree_columns.proofs.Tree.{few_nodes}
-use Rattle.record_sizes.proofs.Holding.{Holding, holding_done, holding_first, holding_low, holding_more}
+use Rattle.record_sizes.proofs.Holding.{Holding}
 use Rattle.record_sizes.proofs.sum_held.Given as goal
 
 abbrev pub invariant-loop-j : goal.invariant-loop-j

@@ -1,9 +1,7 @@
 -- `record_sizes::sum_losses` meets its contract. The invariant: the first j nodes have added.
 use Prim.Native.Nat.{◌-◌}
-use native.Mathlib.Omega.{arith}
-use Rattle.maxtree_columns.proofs.Tree.{few_nodes}
 use Rattle.record_sizes.specs.Sizes.{loss_of}
-use Rattle.record_sizes.proofs.Listing.{Listing, listing_done, listing_first, listing_more, listing_table}
+use Rattle.record_sizes.proofs.Listing.{Listing}
 use Rattle.record_sizes.proofs.sum_losses.Given as goal
 
 abbrev pub invariant-loop-j : goal.invariant-loop-j

@@ -1,5 +1,5 @@
 -- `record_tree::read_tree` meets its contract.
-use Rattle.std.proofs.Common.{rules, arith}
+use Rattle.std.proofs.Common.{arith}
 use Rattle.maxtree_columns.proofs.Tree.{tree_here}
 use Rattle.record_parse.specs.Parse.{parse, read_of}
 use Rattle.record_tree.proofs.Finding.{spelt, spelt_buildable, spelt_few, found_different, found_tree, unspelt_found}

@@ -1,10 +1,7 @@
 -- `record_tree::write_greys` meets its contract. The invariant: the first p greys are written, and the others are as they were.
 use mathlib.Core.Path.{◌≡◌, refl}
-use mathlib.Core.List.{◌++◌}
-use Prim.Native.Nat.{◌-◌, ◌≤◌}
 use native.Mathlib.Omega.{arith}
-use borrow.Author.Rules.{rules}
-use lib.ListN.{length, drop, length-set}
+use lib.ListN.{length-set}
 use Rattle.meaning.specs.Sets.{span, table}
 use Rattle.theory_lists.proofs.Written.{written-more, written_over}
 use Rattle.work_columns.specs.Columns.{col}

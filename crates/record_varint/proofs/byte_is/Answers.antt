@@ -2,7 +2,6 @@
 -- Assumes nothing.
 use native.Mathlib.Omega.{arith}
 use borrow.Author.Tests.{lt-ltb, le-ltb}
-use borrow.Author.Rules.{rules}
 use Rattle.record_varint.proofs.byte_is.Goals as goal
 
 pub overflow_cast-result : goal.overflow_cast-result

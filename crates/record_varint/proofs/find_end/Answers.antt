@@ -1,12 +1,7 @@
 -- `record_varint::find_end` meets its contract. The loop's invariant: what leads from i on is what is left of what leads from `at` on.
 -- Assumes nothing.
-use mathlib.Core.Path.{◌≡◌}
-use Prim.Native.Nat.{◌+◌, ◌-◌}
 use native.Mathlib.Omega.{arith}
 use native.Mathlib.Numerals.{add-one}
-use borrow.Author.Rules.{rules}
-use lib.ListN.{length, drop}
-use Rattle.record_varint.specs.Field.{continued}
 use Rattle.record_varint.proofs.Position.{continued_here, continued_next, continued-none}
 use Rattle.record_varint.proofs.find_end.Goals as goal
 

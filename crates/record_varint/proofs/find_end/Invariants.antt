@@ -2,12 +2,8 @@
 -- Assumes nothing.
 use mathlib.Core.Path.{◌≡◌}
 use Prim.Native.Nat.{◌+◌, ◌-◌}
-use native.Mathlib.Omega.{arith}
-use native.Mathlib.Numerals.{add-one}
-use borrow.Author.Rules.{rules}
 use lib.ListN.{length, drop}
 use Rattle.record_varint.specs.Field.{continued}
-use Rattle.record_varint.proofs.Position.{continued_here, continued_next, continued-none}
 use Rattle.record_varint.proofs.find_end.Given as goal
 
 abbrev pub invariant-loop-i : goal.invariant-loop-i

@@ -1,12 +1,11 @@
 -- `record_varint::put_field` meets its contract. The loop's invariant: what is left to be stored, stored on the list as it is, gives the whole.
 -- Assumes nothing.
 use mathlib.Core.Path.{◌∙◌}
-use native.Mathlib.Omega.{arith}
 use borrow.Author.Rules.{rules}
 use lib.ListN.{length-set}
 use lib.Seq.{sets-eq}
 use Rattle.meaning.specs.Record.{varint}
-use Rattle.record_varint.proofs.Writing.{Left, left-first, left-more, left_ends, left_last}
+use Rattle.record_varint.proofs.Writing.{left-first, left-more, left_ends, left_last}
 use Rattle.record_varint.proofs.put_field.Goals as goal
 
 pub loop-x-init : goal.loop-x-init

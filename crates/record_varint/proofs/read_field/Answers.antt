@@ -2,7 +2,6 @@
 -- Assumes nothing.
 use mathlib.Core.Path.{sym, ◌∙◌}
 use native.Mathlib.Omega.{arith}
-use borrow.Author.Rules.{rules}
 use Rattle.record_varint.proofs.Position.{Formed, read_unended, read_many, read_zero_last, read_large, read_formed, read_low, read_high, read_accepted}
 use Rattle.record_varint.proofs.read_field.Goals as goal
 use Rattle.record_varint.proofs.read_field.Goals.{Else-v-gt4294967295}

@@ -2,11 +2,10 @@
 -- Assumes nothing.
 use mathlib.Core.Path.{sym, ◌∙◌}
 use Prim.Native.Nat.{◌+◌, ◌%◌, ◌<◌}
-use native.Mathlib.Omega.{arith}
 use borrow.Author.Rules.{rules}
 use borrow.Author.Tests.{not-true, not-false}
 use lib.ListN.{length}
-use Rattle.record_varint.proofs.Comparing.{Compared, compared-first, compared_inside, compared-more, compared_differs, compared_same}
+use Rattle.record_varint.proofs.Comparing.{compared-first, compared_inside, compared-more, compared_differs, compared_same}
 use Rattle.record_varint.proofs.Comparing.{compared_last_differs}
 use Rattle.record_varint.proofs.same_field.Goals as goal
 use mathlib.Core.Path.{ap}

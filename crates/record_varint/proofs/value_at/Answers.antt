@@ -4,7 +4,7 @@ use Prim.Native.Nat.{◌-◌, ◌≤◌, ◌<◌}
 use native.Mathlib.Omega.{arith}
 use borrow.Author.Rules.{rules}
 use lib.ListN.{get_or}
-use Rattle.record_varint.proofs.Position.{FieldSpelt, top_set, spelt_last, spelt_small, spelt_back, spelt_all}
+use Rattle.record_varint.proofs.Position.{top_set, spelt_last, spelt_small, spelt_back, spelt_all}
 use Rattle.record_varint.proofs.value_at.Goals as goal
 
 pub loop-i-init : goal.loop-i-init

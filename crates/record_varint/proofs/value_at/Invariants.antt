@@ -1,10 +1,6 @@
 -- `record_varint::value_at` meets its contract. The loop's invariant: v is the number that the groups from i on spell.
 -- Assumes nothing.
-use Prim.Native.Nat.{◌-◌, ◌≤◌, ◌<◌}
-use native.Mathlib.Omega.{arith}
-use borrow.Author.Rules.{rules}
-use lib.ListN.{get_or}
-use Rattle.record_varint.proofs.Position.{FieldSpelt, top_set, spelt_last, spelt_small, spelt_back, spelt_all}
+use Rattle.record_varint.proofs.Position.{FieldSpelt}
 use Rattle.record_varint.proofs.value_at.Given as goal
 
 abbrev pub invariant-loop-i : goal.invariant-loop-i

@@ -1,5 +1,5 @@
 -- `seeded_plates::seeded_plate` meets its contract: 2, 5, or the plate.
-use Rattle.std.proofs.Common.{◌≡◌, ◌*◌, ◌≤◌, true, length, sym, ◌∙◌, arith, rules}
+use Rattle.std.proofs.Common.{◌≡◌, ◌*◌, ◌≤◌, true, length, sym, ◌∙◌, arith}
 use borrow.Author.Tests.{not-false, not-true}
 use Rattle.meaning.specs.Plate.{grid_fits, max_pixels}
 use Rattle.theory_connectivity.proofs.Sizes.{grid_sizes}

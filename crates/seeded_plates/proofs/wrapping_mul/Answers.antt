@@ -1,5 +1,5 @@
 -- `seeded_plates::wrapping_mul` meets its contract: the product of two numbers of 32 bits has 64.
-use Rattle.std.proofs.Common.{ℕ, mul-le-mul, arith, rules}
+use Rattle.std.proofs.Common.{ℕ, mul-le-mul, arith}
 use Rattle.seeded_plates.proofs.wrapping_mul.Goals as goal
 
 pub overflow_mul-result : goal.overflow_mul-result

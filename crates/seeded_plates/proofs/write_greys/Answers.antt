@@ -1,6 +1,6 @@
 -- `seeded_plates::write_greys` meets its contract. The invariant: p greys are written, and p steps are taken.
-use Rattle.std.proofs.Common.{◌-◌, ◌<◌, length, arith}
-use Rattle.seeded_plates.proofs.Generating.{Generating, generating_done, generating_first, generating_more, place_within}
+use Rattle.std.proofs.Common.{◌<◌, length, arith}
+use Rattle.seeded_plates.proofs.Generating.{generating_done, generating_first, generating_more, place_within}
 use Rattle.seeded_plates.proofs.write_greys.Goals as goal
 use Rattle.seeded_plates.proofs.write_greys.Goals.{In-loop-p}
 

@@ -1,6 +1,6 @@
 -- `seeded_plates::write_greys` meets its contract. The invariant: p greys are written, and p steps are taken.
-use Rattle.std.proofs.Common.{◌-◌, ◌<◌, length, arith}
-use Rattle.seeded_plates.proofs.Generating.{Generating, generating_done, generating_first, generating_more, place_within}
+use Rattle.std.proofs.Common.{◌-◌}
+use Rattle.seeded_plates.proofs.Generating.{Generating}
 use Rattle.seeded_plates.proofs.write_greys.Given as goal
 
 abbrev pub invariant-loop-p : goal.invariant-loop-p

@@ -1,6 +1,5 @@
 -- `text_lines::put_field` meets its contract: the space, and the number after it.
 use native.Mathlib.Omega.{arith}
-use borrow.Author.Rules.{rules}
 use Rattle.text_lines.proofs.Pieces.{put_put}
 use Rattle.text_lines.proofs.put_field.Goals as goal
 

@@ -1,9 +1,7 @@
 -- `text_lines::put_word` meets its contract. The invariant: i bytes of the word are put.
 use mathlib.Core.Path.{refl}
-use Prim.Native.Nat.{◌-◌}
 use native.Mathlib.Omega.{arith}
-use lib.ListN.{length}
-use Rattle.text_lines.proofs.Pieces.{Putting, putting_done, putting_more}
+use Rattle.text_lines.proofs.Pieces.{putting_done, putting_more}
 use Rattle.text_lines.proofs.put_word.Goals as goal
 
 pub loop-i-init : goal.loop-i-init

@@ -1,9 +1,7 @@
 -- `text_lines::put_word` meets its contract. The invariant: i bytes of the word are put.
-use mathlib.Core.Path.{refl}
 use Prim.Native.Nat.{◌-◌}
-use native.Mathlib.Omega.{arith}
 use lib.ListN.{length}
-use Rattle.text_lines.proofs.Pieces.{Putting, putting_done, putting_more}
+use Rattle.text_lines.proofs.Pieces.{Putting}
 use Rattle.text_lines.proofs.put_word.Given as goal
 
 abbrev pub invariant-loop-i : goal.invariant-loop-i

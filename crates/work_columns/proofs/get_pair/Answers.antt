@@ -1,7 +1,6 @@
 -- `work_columns::get_pair` meets its contract.
 use mathlib.Core.Path.{sym}
 use Prim.Native.Nat.{◌+◌, ◌-◌, ◌*◌}
-use borrow.Author.Rules.{rules}
 use native.Mathlib.Omega.{arith}
 use Rattle.work_columns.proofs.Columns.{pair-entry}
 use Rattle.work_columns.proofs.get_pair.Goals as goal

@@ -1,7 +1,6 @@
 -- `work_columns::put` meets its contract: a column of eight is within the slice.
 use native.Mathlib.Nat.{mul-le-mul_right}
 use native.Mathlib.Omega.{arith}
-use borrow.Author.Rules.{rules}
 use Rattle.work_columns.proofs.Columns.{stored}
 use Rattle.work_columns.proofs.put.Goals as goal
 

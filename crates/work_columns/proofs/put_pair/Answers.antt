@@ -1,5 +1,4 @@
 -- `work_columns::put_pair` meets its contract.
-use borrow.Author.Rules.{rules}
 use native.Mathlib.Omega.{arith}
 use Rattle.work_columns.proofs.Columns.{pair_stored}
 use Rattle.work_columns.proofs.put_pair.Goals as goal

@@ -1,7 +1,6 @@
 -- One blank.
 use mathlib.Core.Path.{sym, ◌∙◌}
 use native.Mathlib.Omega.{arith}
-use borrow.Author.Rules.{rules}
 use borrow.Author.Tests.{not-true, not-false}
 use Rattle.pgm_header.specs.declared.HeaderFault.TheVariants.{GapOrNumber}
 use Rattle.pgm_header.proofs.Places.{faulted, blank_absent, blank_missing, blank_here}

@@ -1,6 +1,5 @@
 -- A number of one to five digits.
 use native.Mathlib.Omega.{arith}
-use borrow.Author.Rules.{rules}
 use Rattle.pgm_header.specs.declared.HeaderFault.TheVariants.{GapOrNumber}
 use Rattle.pgm_header.proofs.Places.{faulted}
 use Rattle.pgm_header.proofs.Digits.{number_absent, number_empty, number_long, number_step}

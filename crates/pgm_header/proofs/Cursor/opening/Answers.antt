@@ -1,5 +1,4 @@
 -- "P5" and the gap after it.
-use borrow.Author.Rules.{rules}
 use Rattle.pgm_header.specs.declared.HeaderFault.TheVariants.{Letters}
 use Rattle.pgm_header.proofs.Places.{faulted, letters_absent, letters_other, letters_one, letters_second, letters_here}
 use Rattle.pgm_header.proofs.Cursor.opening.Goals as goal
