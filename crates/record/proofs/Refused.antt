@@ -1,21 +1,16 @@
 -- The operations that read a record, where it is refused: up to 24, and by their own conditions 4 and 5. P: what reading finds up to 24.
-use mathlib.Core.Logic.{◌⊎◌, ⊎_elim}
 use mathlib.Core.Path.{◌≡◌, refl}
 use mathlib.Core.Bool.{Bool, true, false}
-use mathlib.Core.List.{List, [], ◌∷◌, ◌++◌}
+use mathlib.Core.List.{List, ◌++◌}
 use Prim.Native.Nat.{ℕ, ◌*◌}
-use native.Mathlib.Omega.{arith}
 use lib.Dec.{eqb}
 use lib.ListN.{length, drop, replicate}
 use borrow.Author.Tests.{ne_eqb}
-use types.Run.{OneOf}
-use denote.Enum.Declared.{tag_of}
 use Rattle.meaning.specs.Answers.{limit_refusal, out_refusal, tables_refusal, work_after}
 use Rattle.work_columns.specs.Columns.{Frame}
 use Rattle.work_columns.proofs.Columns.{cleared}
 use Rattle.record_parse.specs.Parse.{Parsed, early, late, plate}
 use Rattle.record_tree.specs.declared.Found.{Found}
-use Rattle.record_tree.specs.contracts.Found.{the_type}
 use Rattle.record_tree.specs.declared.Found.TheVariants.{Early, Late, Tree}
 use Rattle.record_tree.specs.Found.{FoundIs, cleared_by, found_number}
 use Rattle.record.specs.declared.Head.{Head}
@@ -31,23 +26,17 @@ no_sizes number = record { refusal = number; width = 0; height = 0; greatest = 0
 
 -- ---- up to 24
 
--- the tags of what is no tree
-abbrev pub NoTree : Found → Type 0
-NoTree t = OneOf (0 ∷ 1 ∷ []) (tag_of the_type t)
-
 -- the refusal of P by `number`, with the work space as it is then
 pub data Stopped : Parsed → List ℕ → List ℕ → ℕ → Type 0 where
   unchanged : {work : List ℕ} {number : ℕ} → Stopped (early number) work work number
   zeroed : {work work' : List ℕ} {number pixels : ℕ} → work' ≡ work_after true pixels work → Stopped (late number pixels) work work' number
 
-pub stopped : {P : Parsed} (t : Found) {work w₁ w₂ : List ℕ} {number : ℕ} → FoundIs P work w₁ t → NoTree t → number ≡ found_number t
-    → w₂ ≡ cleared_by t w₁
+pub stopped : {P : Parsed} (t : Found) {work w₁ w₂ : List ℕ} {number : ℕ} → FoundIs P work w₁ t
+    → ((new : Bool) (wd ht M k count : ℕ) → t ≡ Tree new wd ht M k count → ⊥) → number ≡ found_number t → w₂ ≡ cleared_by t w₁
     → Stopped P work w₂ number
 stopped (Early m) x other e c = rw (← x.answer, e, c, x.space) unchanged
 stopped (Late m pixels) x other e c = rw (← x.answer, e) (zeroed (cleared x.space.1 c))
-stopped (Tree new wd ht M k count) x other e c =
-    let m : (◌≡◌ {A = ℕ} 2 0) ⊎ (◌≡◌ {A = ℕ} 2 1) = other in
-    absurd (⊎_elim (λ z. omega arith) (λ z. omega arith) m)
+stopped (Tree new wd ht M k count) x other e c = absurd (other new wd ht M k count refl)
 
 pub read_stopped : {P : Parsed} {work w₂ : List ℕ} {number : ℕ} (out : List ℕ) → Stopped P work w₂ number
     → ReadRecord P out out work w₂ (no_head number)

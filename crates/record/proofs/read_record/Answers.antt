@@ -1,24 +1,10 @@
 -- `record::read_record` meets its contract.
 use borrow.Author.Rules.{rules}
 use native.Mathlib.Omega.{arith}
-use lib.ListN.{length}
-use Rattle.record_parse.specs.Parse.{read_of}
-use Rattle.record_tree.proofs.Finding.{TreeFound, tree_found, found_clearable}
-use Rattle.record.proofs.Refused.{Stopped, stopped, read_stopped, read_refused}
+use Rattle.record_tree.proofs.Finding.{tree_found, found_clearable}
+use Rattle.record.proofs.Refused.{stopped, read_stopped, read_refused}
 use Rattle.record.proofs.Done.{tree_few, tree_room, read_greys, read_done}
 use Rattle.record.proofs.read_record.Goals as goal
-use Rattle.record.proofs.read_record.Goals.{After-give_up, In-Tree}
-
--- the form of the record, the width, height, greatest grey and connectivity of its plate, and the number of its nodes; its tree stands in the work space
-there : (c : In-Tree) → let g = c.f-1.given.0 in let s = c.args in
-    TreeFound (read_of s.bytes.now (length s.work.now)) g.0 g.1.0 g.1.1.0 g.1.1.1.0 g.1.1.1.1.0 s.work.now
-    c.read_tree-f.new.1.0 g.1.1.1.1.1.0
-there c = tree_found c.read_tree-f.ensures c.f-1.given.1
-
-refused : (c : After-give_up) → let s = c.args in
-    Stopped (read_of s.bytes.now (length s.work.now)) s.work.now c.give_up.new.1.0 c.give_up.result
-refused c = let t = c.read_tree-f in
-    stopped t.result t.ensures c.in_default.keys2 c.give_up.ensures.0 c.give_up.ensures.1
 
 pub give_up-requires : goal.give_up-requires
 give_up-requires c =
@@ -27,29 +13,29 @@ give_up-requires c =
 
 pub returns-in_default : goal.returns-in_default
 returns-in_default c =
-    rw c.refused_head.ensures (read_stopped c.args.out.now (refused (goal.at.returns-in_default c).After-give_up))
+    rw c.refused_head.ensures (read_stopped c.args.out.now (stopped c.read_tree-f.result c.read_tree-f.ensures c.in_default.not-Tree c.give_up.ensures.0 c.give_up.ensures.1))
 
 pub overflow_mul-n : goal.overflow_mul-n
-overflow_mul-n c = omega (arith, tree_few (there (goal.at.overflow_mul-n c).In-Tree))
+overflow_mul-n c = omega (arith, tree_few (tree_found c.read_tree-f.ensures c.in-Tree.is))
 
 pub overflow_cast-n : goal.overflow_cast-n
-overflow_cast-n c = omega (arith, tree_few (there (goal.at.overflow_cast-n c).In-Tree))
+overflow_cast-n c = omega (arith, tree_few (tree_found c.read_tree-f.ensures c.in-Tree.is))
 
 pub clear-requires : goal.clear-requires
-clear-requires c = tree_room (there (goal.at.clear-requires c).In-Tree)
+clear-requires c = tree_room (tree_found c.read_tree-f.ensures c.in-Tree.is)
 
 pub returns-then-refusal-ne0 : goal.returns-then-refusal-ne0
 returns-then-refusal-ne0 c =
-    let t = there (goal.at.returns-then-refusal-ne0 c).In-Tree in
+    let t = tree_found c.read_tree-f.ensures c.in-Tree.is in
     rw c.refused_head-then-refusal-ne0.ensures (read_refused t.is t.frame c.out_refusal-refusal.ensures c.if-refusal-ne0.true c.clear.ensures)
 
 pub write_greys-requires : goal.write_greys-requires
 write_greys-requires c =
-    read_greys (there (goal.at.write_greys-requires c).In-Tree) c.out_refusal-refusal.ensures c.if-refusal-ne0.false
+    read_greys (tree_found c.read_tree-f.ensures c.in-Tree.is) c.out_refusal-refusal.ensures c.if-refusal-ne0.false
 
 pub clear-requires-2 : goal.clear-requires-2
-clear-requires-2 c = tree_room (there (goal.at.clear-requires-2 c).In-Tree)
+clear-requires-2 c = tree_room (tree_found c.read_tree-f.ensures c.in-Tree.is)
 
 pub returns : goal.returns
 returns c =
-    read_done (there (goal.at.returns c).In-Tree) c.out_refusal-refusal.ensures c.if-refusal-ne0.false c.write_greys.ensures c.clear-2.ensures
+    read_done (tree_found c.read_tree-f.ensures c.in-Tree.is) c.out_refusal-refusal.ensures c.if-refusal-ne0.false c.write_greys.ensures c.clear-2.ensures

@@ -4,17 +4,9 @@ use mathlib.Core.Path.{sym, ◌∙◌}
 use lib.ListN.{length}
 use native.Mathlib.Omega.{arith}
 use Rattle.maxtree_columns.proofs.Tree.{tree_here}
-use Rattle.plate_refusals.proofs.Refusals.{Listable, out_none, tree_none}
+use Rattle.plate_refusals.proofs.Refusals.{out_none, tree_none}
 use Rattle.record.proofs.Wrote.{wrote_done, wrote_ready, wrote_refused, wrote_room, wrote_short}
 use Rattle.record.proofs.write_record.Goals as goal
-use Rattle.record.proofs.write_record.Goals.{Else-refusal-ne0}
-
--- nothing is refused ahead of the work
-listable : (c : Else-refusal-ne0) → let s = c.args in
-    Listable s.connectivity s.width s.height s.greatest s.image.now (length s.work.now)
-listable c = let s = c.args in
-    tree_none s.connectivity s.width s.height s.greatest s.image.now (length s.work.now)
-    c.tree_refusal-refusal.ensures c.if-refusal-ne0.false
 
 pub returns-then-refusal-ne0 : goal.returns-then-refusal-ne0
 returns-then-refusal-ne0 c =
@@ -26,7 +18,8 @@ returns-then-refusal-ne0 c =
 pub plate_tree-count-requires : goal.plate_tree-count-requires
 plate_tree-count-requires c =
     let s = c.args in
-    wrote_ready s.image.now s.work.now (listable (goal.at.plate_tree-count-requires c).Else-refusal-ne0) c.shape_of-g.ensures
+    let listable = tree_none s.connectivity s.width s.height s.greatest s.image.now (length s.work.now) c.tree_refusal-refusal.ensures c.if-refusal-ne0.false in
+    wrote_ready s.image.now s.work.now listable c.shape_of-g.ensures
 
 pub measure-size-requires : goal.measure-size-requires
 measure-size-requires c = tree_here c.plate_tree-count.ensures.tree
@@ -34,13 +27,15 @@ measure-size-requires c = tree_here c.plate_tree-count.ensures.tree
 pub clear-requires : goal.clear-requires
 clear-requires c =
     let s = c.args in
-    wrote_room s.image.now s.work.now (listable (goal.at.clear-requires c).Else-refusal-ne0) c.shape_of-g.ensures c.plate_tree-count.ensures
+    let listable = tree_none s.connectivity s.width s.height s.greatest s.image.now (length s.work.now) c.tree_refusal-refusal.ensures c.if-refusal-ne0.false in
+    wrote_room s.image.now s.work.now listable c.shape_of-g.ensures c.plate_tree-count.ensures
 
 pub returns-then-short-ne0 : goal.returns-then-short-ne0
 returns-then-short-ne0 c =
     let s = c.args in
+    let listable = tree_none s.connectivity s.width s.height s.greatest s.image.now (length s.work.now) c.tree_refusal-refusal.ensures c.if-refusal-ne0.false in
     rw c.refused_written-then-short-ne0.ensures
-    (wrote_short s.image.now s.work.now (listable (goal.at.returns-then-short-ne0 c).Else-refusal-ne0) c.shape_of-g.ensures c.plate_tree-count.ensures c.measure-size.ensures
+    (wrote_short s.image.now s.work.now listable c.shape_of-g.ensures c.plate_tree-count.ensures c.measure-size.ensures
     c.clear.ensures c.out_refusal-short.ensures c.if-short-ne0.true)
 
 pub write-requires : goal.write-requires
@@ -50,10 +45,12 @@ write-requires c =
 pub clear-requires-2 : goal.clear-requires-2
 clear-requires-2 c =
     let s = c.args in
-    wrote_room s.image.now s.work.now (listable (goal.at.clear-requires-2 c).Else-refusal-ne0) c.shape_of-g.ensures c.plate_tree-count.ensures
+    let listable = tree_none s.connectivity s.width s.height s.greatest s.image.now (length s.work.now) c.tree_refusal-refusal.ensures c.if-refusal-ne0.false in
+    wrote_room s.image.now s.work.now listable c.shape_of-g.ensures c.plate_tree-count.ensures
 
 pub returns : goal.returns
 returns c =
     let s = c.args in
-    wrote_done s.image.now s.work.now (listable (goal.at.returns c).Else-refusal-ne0) c.shape_of-g.ensures c.plate_tree-count.ensures c.measure-size.ensures
+    let listable = tree_none s.connectivity s.width s.height s.greatest s.image.now (length s.work.now) c.tree_refusal-refusal.ensures c.if-refusal-ne0.false in
+    wrote_done s.image.now s.work.now listable c.shape_of-g.ensures c.plate_tree-count.ensures c.measure-size.ensures
     c.clear-2.ensures c.out_refusal-short.ensures c.if-short-ne0.false c.write.ensures
