@@ -1,31 +1,25 @@
 -- `pgm_roll::roll_plate` meets its contract: the roll is refused, the number is not below the count, the output is short, or the plate is written.
-use mathlib.Core.List.{List}
-use Prim.Native.Nat.{ℕ}
 use native.Mathlib.Omega.{arith}
-use borrow.Author.Rules.{rules}
 use Rattle.pgm_roll.specs.Roll.{numbered, roll}
 use Rattle.pgm_roll.specs.Scan.{Stands}
 use Rattle.pgm_roll.proofs.Places.{stands_few}
 use Rattle.pgm_roll.proofs.Reading.{scan_beyond, scan_fits, scan_read, scan_refused, scan_short, there}
 use Rattle.pgm_roll.proofs.roll_plate.Goals as goal
-use Rattle.pgm_roll.proofs.roll_plate.Goals.{After-scan_roll-scan, Else-scan-number}
+use Rattle.pgm_roll.proofs.roll_plate.Goals.{Else-scan-number}
 
-abbrev bytes : (c : After-scan_roll-scan) → List ℕ
-bytes c = c.args.file.now
-
-abbrev out : (c : After-scan_roll-scan) → List ℕ
-out c = c.args.out.now
-
-stands : (c : Else-scan-number) → Stands (bytes (at-place c).After-scan_roll-scan) c.scan_roll-scan.result.chosen (numbered (roll (bytes (at-place c).After-scan_roll-scan)) c.args.number)
-stands c = there (bytes (at-place c).After-scan_roll-scan) c.args.number (out (at-place c).After-scan_roll-scan) c.scan_roll-scan.ensures c.if-scan-ne0.false c.if-scan-number.false
+-- the plate that was looked for is in the roll
+stands : (c : Else-scan-number) → Stands c.args.file.now c.scan_roll-scan.result.chosen (numbered (roll c.args.file.now) c.args.number)
+stands c = there c.args.file.now c.args.number c.args.out.now c.scan_roll-scan.ensures c.if-scan-ne0.false c.if-scan-number.false
 
 pub returns-then-scan-ne0 : goal.returns-then-scan-ne0
 returns-then-scan-ne0 c =
-    let both = scan_refused (bytes (goal.at.returns-then-scan-ne0 c).After-scan_roll-scan) c.args.number (out (goal.at.returns-then-scan-ne0 c).After-scan_roll-scan) c.scan_roll-scan.ensures c.if-scan-ne0.true c.refused_read.ensures in record { value = both.0; out_after = both.1 }
+    let both = scan_refused c.args.file.now c.args.number c.args.out.now c.scan_roll-scan.ensures c.if-scan-ne0.true c.refused_read.ensures in
+    record { value = both.0; out_after = both.1 }
 
 pub returns-then-scan-number : goal.returns-then-scan-number
 returns-then-scan-number c =
-    let both = scan_beyond (bytes (goal.at.returns-then-scan-number c).After-scan_roll-scan) c.args.number (out (goal.at.returns-then-scan-number c).After-scan_roll-scan) c.scan_roll-scan.ensures c.if-scan-ne0.false c.if-scan-number.true c.refused_read-then-scan-number.ensures in record { value = both.0; out_after = both.1 }
+    let both = scan_beyond c.args.file.now c.args.number c.args.out.now c.scan_roll-scan.ensures c.if-scan-ne0.false c.if-scan-number.true c.refused_read-then-scan-number.ensures in
+    record { value = both.0; out_after = both.1 }
 
 pub overflow_mul-plate : goal.overflow_mul-plate
 overflow_mul-plate c = omega (arith, stands_few (stands (goal.at.overflow_mul-plate c).Else-scan-number))
@@ -35,17 +29,19 @@ overflow_cast-plate c = omega (arith, stands_few (stands (goal.at.overflow_cast-
 
 pub returns-then-out-plate : goal.returns-then-out-plate
 returns-then-out-plate c =
-    let both = scan_short (bytes (goal.at.returns-then-out-plate c).After-scan_roll-scan) c.args.number (out (goal.at.returns-then-out-plate c).After-scan_roll-scan) c.scan_roll-scan.ensures c.if-scan-ne0.false c.if-scan-number.false c.if-out-plate.true
-    c.refused_read-then-out-plate.ensures in record { value = both.0; out_after = both.1 }
+    let both = scan_short c.args.file.now c.args.number c.args.out.now c.scan_roll-scan.ensures c.if-scan-ne0.false c.if-scan-number.false c.if-out-plate.true
+    c.refused_read-then-out-plate.ensures in
+    record { value = both.0; out_after = both.1 }
 
 pub slice_bounds-write_greys-count : goal.slice_bounds-write_greys-count
 slice_bounds-write_greys-count c = (stands (goal.at.slice_bounds-write_greys-count c).Else-scan-number).from
 
 pub write_greys-requires : goal.write_greys-requires
 write_greys-requires c =
-    scan_fits (bytes (goal.at.write_greys-requires c).After-scan_roll-scan) c.args.number (out (goal.at.write_greys-requires c).After-scan_roll-scan) c.scan_roll-scan.ensures c.if-scan-ne0.false c.if-scan-number.false c.if-out-plate.false
+    scan_fits c.args.file.now c.args.number c.args.out.now c.scan_roll-scan.ensures c.if-scan-ne0.false c.if-scan-number.false c.if-out-plate.false
 
 pub returns : goal.returns
 returns c =
-    let both = scan_read (bytes (goal.at.returns c).After-scan_roll-scan) c.args.number (out (goal.at.returns c).After-scan_roll-scan) c.scan_roll-scan.ensures c.if-scan-ne0.false c.if-scan-number.false c.if-out-plate.false
-    c.write_greys.ensures in record { value = both.0; out_after = both.1 }
+    let both = scan_read c.args.file.now c.args.number c.args.out.now c.scan_roll-scan.ensures c.if-scan-ne0.false c.if-scan-number.false c.if-out-plate.false
+    c.write_greys.ensures in
+    record { value = both.0; out_after = both.1 }

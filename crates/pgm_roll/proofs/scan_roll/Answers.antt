@@ -6,18 +6,14 @@ use Rattle.meaning.specs.Plate.{max_pixels}
 use Rattle.pgm_roll.proofs.Places.{Begins, begins_far, begins_stands, place-begins, place_faulty, stands_few}
 use Rattle.pgm_roll.proofs.Scanning.{Scanning, scanned_all, scanned_refused, scanning_first, scanning_more}
 use Rattle.pgm_roll.proofs.scan_roll.Goals as goal
-use Rattle.pgm_roll.proofs.scan_roll.Goals.{After-plate_at-plate, Else-plate-ne0}
+use Rattle.pgm_roll.proofs.scan_roll.Goals.{Else-plate-ne0}
 
--- ---- in a turn, where the plate was looked at
-abbrev start : (c : After-plate_at-plate) → tie.Start
-start c = ⟦⟧
-
--- it begins there, where it is not refused
-begun : (c : Else-plate-ne0) → Begins (start (at-place c).After-plate_at-plate).args.file.now c.loop-at.at c.plate_at-plate.result
-begun c = place-begins (start (at-place c).After-plate_at-plate).args.file.now c.loop-at.at c.plate_at-plate.ensures c.if-plate-ne0.false
+-- the plate begins there, where it is not refused
+begun : (c : Else-plate-ne0) → Begins c.args.file.now c.loop-at.at c.plate_at-plate.result
+begun c = place-begins c.args.file.now c.loop-at.at c.plate_at-plate.ensures c.if-plate-ne0.false
 
 few : (c : Else-plate-ne0) → let r = c.plate_at-plate.result in r.width * r.height ≤ max_pixels
-few c = stands_few (begins_stands (begun c))
+few c = stands_few (begins_stands (place-begins c.args.file.now c.loop-at.at c.plate_at-plate.ensures c.if-plate-ne0.false))
 
 pub loop-at-init : goal.loop-at-init
 loop-at-init c = scanning_first _ _ _
@@ -25,7 +21,7 @@ loop-at-init c = scanning_first _ _ _
 pub returns-then-plate-ne0 : goal.returns-then-plate-ne0
 returns-then-plate-ne0 c =
     scanned_refused c.loop-at.invariant c.refused_at.result c.loop-at-test.true
-    (place_faulty (start (goal.at.returns-then-plate-ne0 c).After-plate_at-plate).args.file.now c.loop-at.at c.plate_at-plate.ensures c.if-plate-ne0.true)
+    (place_faulty c.args.file.now c.loop-at.at c.plate_at-plate.ensures c.if-plate-ne0.true)
 
 pub overflow_mul-plate : goal.overflow_mul-plate
 overflow_mul-plate c = omega (arith, few (goal.at.overflow_mul-plate c).Else-plate-ne0)

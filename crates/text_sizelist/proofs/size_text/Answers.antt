@@ -1,17 +1,13 @@
 -- `text_sizelist::size_text` meets its contract: too long, refused by reading, or the text of the plate that was read.
 use mathlib.Core.Path.{◌≡◌, refl, sym, ap, ◌∙◌}
-use Prim.Native.Nat.{◌*◌}
 use native.Mathlib.Omega.{arith}
 use borrow.Author.Rules.{rules}
-use lib.ListN.{length, replicate, take}
+use lib.ListN.{length, replicate}
 use lib.Seq.{length-take-le}
 use Rattle.meaning.specs.Plate.{connectivity_fits}
-use Rattle.pgm.specs.File.{plate_of}
-use Rattle.pgm.proofs.Readable.{Readable}
 use Rattle.text_sizelist.specs.Text.{most_pixels, plate_text}
 use Rattle.text_sizelist.proofs.Files.{made, plate_is, read_is, text_long, text_plate, text_refused}
 use Rattle.text_sizelist.proofs.size_text.Goals as goal
-use Rattle.text_sizelist.proofs.size_text.Goals.{Else-read-ne0}
 
 pub returns-then-file-gt4096 : goal.returns-then-file-gt4096
 returns-then-file-gt4096 c = made c.put_refused.ensures (text_long c.args.file.now c.if-file-gt4096.true)
@@ -22,45 +18,40 @@ returns-then-read-ne0 c =
     (text_refused c.args.file.now c.read_pgm-read.result c.if-file-gt4096.false c.read_pgm-read.ensures.value
     c.if-read-ne0.true)
 
--- what was read, where nothing is refused
-read : (c : Else-read-ne0) → Readable c.read_pgm-read.result.width c.read_pgm-read.result.height c.read_pgm-read.result.greatest
-    (plate_of c.args.file.now) most_pixels
-read c = read_is c.args.file.now (replicate most_pixels 0) c.read_pgm-read.new.1.0 c.read_pgm-read.result
-    c.read_pgm-read.ensures.value c.if-read-ne0.false
-    c.read_pgm-read.ensures.out_after
-
-plate : (c : Else-read-ne0) → take (c.read_pgm-read.result.width * c.read_pgm-read.result.height) c.read_pgm-read.new.1.0 ≡ plate_of c.args.file.now
-plate c = plate_is c.args.file.now (replicate most_pixels 0) c.read_pgm-read.new.1.0 c.read_pgm-read.result
-    c.read_pgm-read.ensures.value c.if-read-ne0.false
-    c.read_pgm-read.ensures.out_after
-
 pub overflow_mul-pixels : goal.overflow_mul-pixels
-overflow_mul-pixels c = omega (arith, (read (goal.at.overflow_mul-pixels c).Else-read-ne0).fits)
-
-pub overflow_cast-pixels : goal.overflow_cast-pixels
-overflow_cast-pixels c = omega (arith, (read (goal.at.overflow_cast-pixels c).Else-read-ne0).fits)
+overflow_mul-pixels c =
+    let e = c.read_pgm-read.ensures in
+    let r = read_is c.args.file.now (replicate most_pixels 0) c.read_pgm-read.new.out c.read_pgm-read.result e.value c.if-read-ne0.false e.out_after in
+    omega (arith, r.fits)
 
 pub slice_bounds-plate-end : goal.slice_bounds-plate-end
 slice_bounds-plate-end c =
-    let fits = (read (goal.at.slice_bounds-plate-end c).Else-read-ne0).fits in
-    search rules
+    let e = c.read_pgm-read.ensures in
+    let r = read_is c.args.file.now (replicate most_pixels 0) c.read_pgm-read.new.out c.read_pgm-read.result e.value c.if-read-ne0.false e.out_after in
+    omega (arith, r.fits)
 
 pub slice_bounds-plate_text-end : goal.slice_bounds-plate_text-end
-slice_bounds-plate_text-end c = sym (length-take-le _ _ (slice_bounds-plate-end c))
+slice_bounds-plate_text-end c =
+    let e = c.read_pgm-read.ensures in
+    let r = read_is c.args.file.now (replicate most_pixels 0) c.read_pgm-read.new.out c.read_pgm-read.result e.value c.if-read-ne0.false e.out_after in
+    sym (length-take-le _ _ (omega (arith, r.fits)))
 
 pub plate_text-requires : goal.plate_text-requires
 unfolding connectivity_fits
 plate_text-requires c =
-    let r = read (goal.at.plate_text-requires c).Else-read-ne0 in
+    let e = c.read_pgm-read.ensures in
+    let r = read_is c.args.file.now (replicate most_pixels 0) c.read_pgm-read.new.out c.read_pgm-read.result e.value c.if-read-ne0.false e.out_after in
+    let is = plate_is c.args.file.now (replicate most_pixels 0) c.read_pgm-read.new.out c.read_pgm-read.result e.value c.if-read-ne0.false e.out_after in
     record {
-      plate = rw (plate (goal.at.plate_text-requires c).Else-read-ne0) (record { kind = refl; sizes = r.sizes; range = r.range; long = r.long; greys = r.greys });
-      small = omega (arith, ap length (plate (goal.at.plate_text-requires c).Else-read-ne0), r.long, r.fits);
+      plate = rw is (record { kind = refl; sizes = r.sizes; range = r.range; long = r.long; greys = r.greys });
+      small = omega (arith, ap length is, r.long, r.fits);
       room = search rules;
     }
 
 pub returns : goal.returns
 returns c =
+    let e = c.read_pgm-read.ensures in
+    let read = c.read_pgm-read.result in
+    let is = plate_is c.args.file.now (replicate most_pixels 0) c.read_pgm-read.new.out read e.value c.if-read-ne0.false e.out_after in
     made c.plate_text.ensures
-    (ap (plate_text c.read_pgm-read.result.width c.read_pgm-read.result.height c.read_pgm-read.result.greatest) (plate (goal.at.returns c).Else-read-ne0)
-    ∙ text_plate c.args.file.now c.read_pgm-read.result c.if-file-gt4096.false c.read_pgm-read.ensures.value
-    c.if-read-ne0.false)
+    (ap (plate_text read.width read.height read.greatest) is ∙ text_plate c.args.file.now read c.if-file-gt4096.false e.value c.if-read-ne0.false)
