@@ -2,7 +2,7 @@
 // need more stack than a program has.
 #![tactic(auto)]
 
-use libc::STDOUT_FILENO;
+use std::io;
 
 const SIZE: usize = 4000000;
 
@@ -36,25 +36,23 @@ fn fill(file: &mut [u8; SIZE], filler: u8) {
     }
 }
 
-fn show(file: &[u8; SIZE]) {
+fn show(rt: &impl Print, file: &[u8; SIZE]) -> io::Result<()> {
     let mut out = [b'.' as u16; 1];
     let r = pgm::read_pgm(file, &mut out);
-    io::print_decimal(STDOUT_FILENO, r.refusal as u64);
-    io::write_all(STDOUT_FILENO, b" ");
-    io::print_decimal(STDOUT_FILENO, r.width as u64);
-    io::write_all(STDOUT_FILENO, b" ");
-    io::print_decimal(STDOUT_FILENO, r.height as u64);
-    io::write_all(STDOUT_FILENO, b" ");
+    let refusal = r.refusal;
+    let width = r.width;
+    let height = r.height;
+    print!(rt; "{refusal} {width} {height} ")?;
     // the greatest grey is 255, so the pixel is a byte
     let pixel = [(out[0] % 256) as u8];
-    io::write_all(STDOUT_FILENO, &pixel);
-    io::write_all(STDOUT_FILENO, b"\n");
+    rt.write_all(&pixel)?;
+    rt.write_all(b"\n")
 }
 
-fn main() {
+fn main(rt: HostRuntime) -> io::Result<()> {
     let mut file = [0u8; SIZE];
     fill(&mut file, b'#');
-    show(&file);
+    show(&rt, &file)?;
     fill(&mut file, b' ');
-    show(&file);
+    show(&rt, &file)
 }

@@ -20,82 +20,94 @@
 //     ink                greatest, greys: refusal and percentage of each
 #![tactic(auto)]
 
-use libc::{STDIN_FILENO, STDOUT_FILENO};
+use std::io;
+use std::io::Read;
 use test_case_lines::cases;
 use test_case_runs::{byte_outputs, files, grey_outputs, tables};
 
-fn run(line: &[u8], bytes: &[u8], greys: &[u16], work: &mut [u32]) {
-    if files::run(line, bytes, greys) {
-        return;
+fn run(
+    rt: &impl Print,
+    line: &[u8],
+    bytes: &[u8],
+    greys: &[u16],
+    work: &mut [u32],
+) -> io::Result<()> {
+    if files::run(rt, line, bytes, greys)? {
+        return Ok(());
     }
-    if tables::run(line, bytes, greys, work) {
-        return;
+    if tables::run(rt, line, bytes, greys, work)? {
+        return Ok(());
     }
-    if grey_outputs::run(line, bytes, greys, work) {
-        return;
+    if grey_outputs::run(rt, line, bytes, greys, work)? {
+        return Ok(());
     }
-    byte_outputs::run(line, bytes, greys, work);
+    byte_outputs::run(rt, line, bytes, greys, work)?;
+    Ok(())
 }
 
 // The work space is lent with as many places as the case says.
-fn lend_work(line: &[u8], bytes: &[u8], greys: &[u16], work: &mut [u32]) {
+fn lend_work(
+    rt: &impl Print,
+    line: &[u8],
+    bytes: &[u8],
+    greys: &[u16],
+    work: &mut [u32],
+) -> io::Result<()> {
     let n = cases::places(line, b"work", work.len());
-    run(line, bytes, greys, &mut work[..n]);
+    run(rt, line, bytes, greys, &mut work[..n])
 }
 
 // The array goes by reference, not as a slice, so that no proof computes its elements.
-fn whole_work(line: &[u8], bytes: &[u8], greys: &[u16], work: &mut [u32; 543000]) {
-    lend_work(line, bytes, greys, work);
+fn whole_work(
+    rt: &impl Print,
+    line: &[u8],
+    bytes: &[u8],
+    greys: &[u16],
+    work: &mut [u32; 543000],
+) -> io::Result<()> {
+    lend_work(rt, line, bytes, greys, work)
 }
 
-fn run_greys(line: &[u8], bytes: &[u8], greys: &[u16]) {
+fn run_greys(rt: &impl Print, line: &[u8], bytes: &[u8], greys: &[u16]) -> io::Result<()> {
     let mut work = [7u32; 543000];
-    whole_work(line, bytes, greys, &mut work);
+    whole_work(rt, line, bytes, greys, &mut work)
 }
 
-fn run_bytes(line: &[u8], bytes: &[u8]) {
+fn run_bytes(rt: &impl Print, line: &[u8], bytes: &[u8]) -> io::Result<()> {
     let mut greys = [0u16; 69000];
     let n = cases::list_greys(line, b"greys", &mut greys);
-    run_greys(line, bytes, &greys[..n]);
+    run_greys(rt, line, bytes, &greys[..n])
 }
 
-fn print_name(line: &[u8]) {
+fn print_name(rt: &impl Print, line: &[u8]) -> io::Result<()> {
     let end = cases::end_at(line, 0, b' ');
-    io::write_all(STDOUT_FILENO, &line[..end]);
+    rt.write_all(&line[..end])
 }
 
 // Runs the case of a line and prints its line.
-fn run_line(line: &[u8]) {
-    print_name(line);
+fn run_line(rt: &impl Print, line: &[u8]) -> io::Result<()> {
+    print_name(rt, line)?;
     let mut bytes = [0u8; 69000];
     let n = cases::list_bytes(line, b"bytes", &mut bytes);
-    run_bytes(line, &bytes[..n]);
-    io::write_all(STDOUT_FILENO, b"\n");
+    run_bytes(rt, line, &bytes[..n])?;
+    rt.write_all(b"\n")
 }
 
-fn run_lines(file: &[u8]) {
+fn run_lines(rt: &impl Print, file: &[u8]) -> io::Result<()> {
     let mut at: usize = 0;
     while at < file.len() {
         let end = cases::end_at(file, at, b'\n');
-        run_line(&file[at..end]);
+        run_line(rt, &file[at..end])?;
         if file.len() <= end {
-            return;
+            return Ok(());
         }
         at = end + 1;
     }
+    Ok(())
 }
 
-fn run_input(file: &mut [u8]) {
-    let n = io::read_full(STDIN_FILENO, file);
-    run_lines(&file[..n]);
-}
-
-// The array goes by reference, as above.
-fn whole_file(file: &mut [u8; 1310720]) {
-    run_input(file);
-}
-
-fn main() {
-    let mut file = [0u8; 1310720];
-    whole_file(&mut file);
+fn main(rt: HostRuntime) -> io::Result<()> {
+    let mut file = Vec::new(rt.alloc());
+    rt.stdin().take(1310720).read_to_end(&mut file)?;
+    run_lines(&rt, &file)
 }
