@@ -1,4 +1,4 @@
-// The text that the program sizelist prints for a plate. It serves the crate `text_sizelist`, which knows that there is room.
+// The text that the program sizelist prints for a plate. It serves the crate `text_roll`, which knows that there is room.
 #![tactic(auto)]
 
 ghost use Rattle.std.specs.Prelude.{◌+◌, ◌*◌, ◌≤◌, ◌<◌, length, ◌≡◌, true};

@@ -1,10 +1,7 @@
 -- `pgm_roll::scan_roll` meets its contract. The invariant: the plates up to a place are known, and the roll goes on there.
-use Prim.Native.Nat.{◌-◌, ◌*◌, ◌≤◌}
-use native.Mathlib.Omega.{arith}
+use Prim.Native.Nat.{◌-◌}
 use lib.ListN.{length}
-use Rattle.meaning.specs.Plate.{max_pixels}
-use Rattle.pgm_roll.proofs.Places.{Begins, begins_far, begins_stands, place-begins, place_faulty, stands_few}
-use Rattle.pgm_roll.proofs.Scanning.{Scanning, scanned_all, scanned_refused, scanning_first, scanning_more}
+use Rattle.pgm_roll.proofs.Scanning.{Scanning}
 use Rattle.pgm_roll.proofs.scan_roll.Given as goal
 
 abbrev pub invariant-loop-at : goal.invariant-loop-at

@@ -1,5 +1,4 @@
 -- `record::cut_record` meets its contract.
-use borrow.Author.Rules.{rules}
 use native.Mathlib.Omega.{arith}
 use Rattle.record_tree.proofs.Finding.{tree_found, found_clearable}
 use Rattle.record.proofs.Refused.{stopped, cut_stopped, cut_refused}

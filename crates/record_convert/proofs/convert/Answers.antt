@@ -1,7 +1,6 @@
 -- `record_convert::convert` meets its contract.
 use mathlib.Core.Path.{sym, ◌∙◌}
 use native.Mathlib.Omega.{arith}
-use borrow.Author.Rules.{rules}
 use lib.ListN.{length}
 use Rattle.record_tree.proofs.Finding.{found_clearable, tree_found}
 use Rattle.record.proofs.Done.{tree_few, tree_room}

@@ -1,5 +1,4 @@
 -- `record_convert::drop_front` meets its contract: what is passed on is the part from the fifth byte on.
-use borrow.Author.Rules.{rules}
 use Rattle.theory_lists.proofs.Lists.{take_rest}
 use Rattle.record_convert.proofs.drop_front.Goals as goal
 

@@ -1,6 +1,5 @@
 -- `record_convert::pass_on` meets its contract.
 use mathlib.Core.Path.{refl}
-use borrow.Author.Rules.{rules}
 use Rattle.record_convert.proofs.Outcomes.{passed_done, passed_short}
 use Rattle.record_convert.proofs.pass_on.Goals as goal
 

@@ -1,6 +1,5 @@
 -- `print_list` is safe and ends.
 use Prim.Native.Nat.{◌-◌, ◌≤◌}
-use native.Mathlib.Omega.{arith}
 use Rattle.test_entries.proofs.print_list.Given as goal
 
 abbrev pub invariant-loop-i : goal.invariant-loop-i

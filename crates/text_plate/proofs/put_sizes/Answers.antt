@@ -1,12 +1,10 @@
 -- `text_plate::put_sizes` meets its contract. The invariant: the lines of the first i areas are put.
 use mathlib.Core.Path.{◌≡◌}
-use Prim.Native.Nat.{◌+◌, ◌*◌, ◌-◌, ◌≤◌, ◌<◌}
+use Prim.Native.Nat.{◌<◌}
 use native.Mathlib.Omega.{arith}
 use native.Mathlib.Numerals.{add-one}
 use Rattle.meaning.specs.Sets.{gather}
-use Rattle.text_lines.specs.Lines.{PutText}
 use Rattle.text_lines.proofs.Pieces.{put_length, put_nothing, put_put}
-use Rattle.text_plate.specs.Text.{size_line}
 use Rattle.text_plate.proofs.put_sizes.Goals as goal
 
 pub loop-i-init : goal.loop-i-init

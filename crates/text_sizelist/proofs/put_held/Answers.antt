@@ -1,5 +1,4 @@
 -- `text_sizelist::put_held` meets its contract: the line is put field by field.
-use borrow.Author.Rules.{rules}
 use native.Mathlib.Omega.{arith}
 use Rattle.text_lines.proofs.Pieces.{and-field, begin, end_line}
 use Rattle.pgm.specs.Text.{bytes}

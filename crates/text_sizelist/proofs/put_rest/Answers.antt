@@ -1,7 +1,6 @@
 -- `text_sizelist::put_rest` meets its contract: the line is put field by field.
 use mathlib.Core.Path.{◌≡◌, ◌∙◌}
 use native.Mathlib.Omega.{arith}
-use borrow.Author.Rules.{rules}
 use borrow.Author.Tests.{le-ltb}
 use Rattle.text_lines.proofs.Pieces.{and-field, begin, end_line}
 use Rattle.meaning.specs.Answers.{ink_refusal}

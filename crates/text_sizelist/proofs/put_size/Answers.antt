@@ -1,5 +1,4 @@
 -- `text_sizelist::put_size` meets its contract: nothing, or the line field by field.
-use borrow.Author.Rules.{rules}
 use native.Mathlib.Omega.{arith}
 use Rattle.meaning.specs.Sets.{nth}
 use Rattle.text_lines.proofs.Pieces.{and-field, begin, end_line, put_nothing}

@@ -1,11 +1,7 @@
 -- `text_sizelist::put_sizes` meets its contract. The invariant: the lines of the first i areas are put.
-use mathlib.Core.Path.{◌≡◌}
-use Prim.Native.Nat.{◌+◌, ◌*◌, ◌-◌, ◌≤◌, ◌<◌}
-use native.Mathlib.Omega.{arith}
-use native.Mathlib.Numerals.{add-one}
+use Prim.Native.Nat.{◌+◌, ◌*◌, ◌-◌, ◌≤◌}
 use Rattle.meaning.specs.Sets.{gather}
 use Rattle.text_lines.specs.Lines.{PutText}
-use Rattle.text_lines.proofs.Pieces.{put_length, put_nothing, put_put}
 use Rattle.text_sizelist.specs.Text.{size_line}
 use Rattle.text_sizelist.proofs.put_sizes.Given as goal
 

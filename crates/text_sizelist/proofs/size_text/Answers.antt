@@ -1,5 +1,5 @@
 -- `text_sizelist::size_text` meets its contract: too long, refused by reading, or the text of the plate that was read.
-use mathlib.Core.Path.{◌≡◌, refl, sym, ap, ◌∙◌}
+use mathlib.Core.Path.{refl, sym, ap, ◌∙◌}
 use native.Mathlib.Omega.{arith}
 use borrow.Author.Rules.{rules}
 use lib.ListN.{length, replicate}

@@ -1,7 +1,6 @@
 -- `end_at` stays inside the bytes, and ends.
 use Prim.Native.Nat.{◌-◌, ◌≤◌}
 use lib.ListN.{length}
-use native.Mathlib.Omega.{arith}
 use Rattle.test_case_lines.proofs.cases.end_at.Given as goal
 
 abbrev pub invariant-loop-i : goal.invariant-loop-i

@@ -1,7 +1,6 @@
 -- `cases::field_at` is safe and ends.
 use Prim.Native.Nat.{◌-◌, ◌≤◌}
 use lib.ListN.{length}
-use native.Mathlib.Omega.{arith}
 use Rattle.test_case_lines.proofs.cases.field_at.Given as goal
 
 abbrev pub invariant-loop-i : goal.invariant-loop-i

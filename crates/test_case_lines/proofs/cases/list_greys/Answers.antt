@@ -1,7 +1,4 @@
 -- `cases::list_greys` is safe and ends: each run moves on.
-use Prim.Native.Nat.{◌-◌, ◌≤◌}
-use lib.ListN.{length}
-use mathlib.Core.Path.{◌≡◌}
 use native.Mathlib.Omega.{arith}
 use Rattle.test_case_lines.proofs.cases.list_greys.Goals as goal
 

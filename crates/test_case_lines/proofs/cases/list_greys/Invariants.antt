@@ -2,7 +2,6 @@
 use Prim.Native.Nat.{◌-◌, ◌≤◌}
 use lib.ListN.{length}
 use mathlib.Core.Path.{◌≡◌}
-use native.Mathlib.Omega.{arith}
 use Rattle.test_case_lines.proofs.cases.list_greys.Given as goal
 
 abbrev pub invariant-loop-at : goal.invariant-loop-at

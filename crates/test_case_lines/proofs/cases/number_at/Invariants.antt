@@ -1,7 +1,6 @@
 -- `cases::number_at` moves on, and ends. The number stays below 2^32.
 use Prim.Native.Nat.{◌-◌, ◌≤◌, ◌<◌}
 use lib.ListN.{length}
-use native.Mathlib.Omega.{arith}
 use Rattle.test_case_lines.proofs.cases.number_at.Given as goal
 
 abbrev pub invariant-loop-i : goal.invariant-loop-i

@@ -1,7 +1,5 @@
 -- `cases::put_bytes` stays inside the bytes, and ends.
-use Prim.Native.Nat.{◌-◌, ◌≤◌}
-use lib.ListN.{length, length-set}
-use mathlib.Core.Path.{◌≡◌}
+use lib.ListN.{length-set}
 use native.Mathlib.Omega.{arith}
 use Rattle.test_case_lines.proofs.cases.put_bytes.Goals as goal
 

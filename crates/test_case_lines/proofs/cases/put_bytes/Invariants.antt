@@ -1,8 +1,7 @@
 -- `cases::put_bytes` stays inside the bytes, and ends.
 use Prim.Native.Nat.{◌-◌, ◌≤◌}
-use lib.ListN.{length, length-set}
+use lib.ListN.{length}
 use mathlib.Core.Path.{◌≡◌}
-use native.Mathlib.Omega.{arith}
 use Rattle.test_case_lines.proofs.cases.put_bytes.Given as goal
 
 abbrev pub invariant-loop-i : goal.invariant-loop-i

@@ -1,8 +1,7 @@
 -- `cases::put_run` stays inside the greys, and ends.
 use Prim.Native.Nat.{◌≤◌}
-use lib.ListN.{length, length-set}
+use lib.ListN.{length}
 use mathlib.Core.Path.{◌≡◌}
-use native.Mathlib.Omega.{arith}
 use Rattle.test_case_lines.proofs.cases.put_run.Given as goal
 
 abbrev pub invariant-loop-left : goal.invariant-loop-left

@@ -1,5 +1,4 @@
 -- `cases::run_at` moves on.
-use borrow.Author.Rules.{rules}
 use native.Mathlib.Omega.{arith}
 use Rattle.test_case_lines.proofs.cases.run_at.Goals as goal
 
