@@ -12,7 +12,8 @@ returns-then-scan-ne0 c =
 
 pub returns-then-scan-gt1024 : goal.returns-then-scan-gt1024
 returns-then-scan-gt1024 c =
-    made c.put_refused-then-scan-gt1024.ensures (text_large c.args.file.now c.if-file-gt4096.false c.scan_roll-scan.ensures c.if-scan-ne0.false c.if-scan-gt1024.true)
+    made c.put_refused-then-scan-gt1024.ensures (text_large c.args.file.now c.if-file-gt4096.false c.scan_roll-scan.ensures
+    c.if-scan-ne0.false c.if-scan-gt1024.true)
 
 pub put_plates-requires : goal.put_plates-requires
 put_plates-requires c =
