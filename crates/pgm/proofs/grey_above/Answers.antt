@@ -17,7 +17,8 @@ grey_at-grey-requires c = omega (arith, c.loop-p-test.true, c.pixel_count-pixels
 pub returns-then-greatest-grey : goal.returns-then-greatest-grey
 returns-then-greatest-grey c =
     let f = greys_of c.args.greatest c.args.raster.now in
-    sym (above_met _ f c.loop-p.p (omega (arith, c.loop-p-test.true, c.pixel_count-pixels.ensures)) (omega (arith, c.if-greatest-grey.true, c.grey_at-grey.ensures)))
+    sym (above_met _ f c.loop-p.p (omega (arith, c.loop-p-test.true, c.pixel_count-pixels.ensures))
+    (omega (arith, c.if-greatest-grey.true, c.grey_at-grey.ensures)))
 
 pub loop-p-preserved : goal.loop-p-preserved
 loop-p-preserved c =
@@ -28,4 +29,5 @@ loop-p-preserved c =
 
 pub returns : goal.returns
 returns c =
-    sym (above_none _ (greys_of c.args.greatest c.args.raster.now) (λ p l. c.loop-p.invariant p (omega (arith, l, c.loop-p-test.false, c.pixel_count-pixels.ensures))))
+    sym (above_none _ (greys_of c.args.greatest c.args.raster.now) (λ p l. c.loop-p.invariant p
+    (omega (arith, l, c.loop-p-test.false, c.pixel_count-pixels.ensures))))

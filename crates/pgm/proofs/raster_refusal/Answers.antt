@@ -46,7 +46,11 @@ returns-then-raster_bytes-raster c =
 pub returns-then-grey_above : goal.returns-then-grey_above
 unfolding raster_refusal
 returns-then-grey_above c =
-    rw (past (goal.at.returns-then-grey_above c).Else-short-ne0 _, all (goal.at.returns-then-grey_above c).Else-raster_bytes-raster, sym c.grey_above.ensures ∙ c.if-grey_above.true)
+    rw (
+      past (goal.at.returns-then-grey_above c).Else-short-ne0 _,
+      all (goal.at.returns-then-grey_above c).Else-raster_bytes-raster,
+      sym c.grey_above.ensures ∙ c.if-grey_above.true,
+    )
 
 pub overflow_mul-width : goal.overflow_mul-width
 overflow_mul-width c = omega (arith, few (goal.at.overflow_mul-width c).Else-short-ne0)
@@ -57,4 +61,8 @@ overflow_cast-width c = omega (arith, few (goal.at.overflow_cast-width c).Else-s
 pub returns : goal.returns
 unfolding raster_refusal
 returns c =
-    rw (past (goal.at.returns c).Else-short-ne0 _, all (goal.at.returns c).Else-raster_bytes-raster, sym c.grey_above.ensures ∙ c.if-grey_above.false) c.out_refusal.ensures
+    rw (
+      past (goal.at.returns c).Else-short-ne0 _,
+      all (goal.at.returns c).Else-raster_bytes-raster,
+      sym c.grey_above.ensures ∙ c.if-grey_above.false,
+    ) c.out_refusal.ensures

@@ -1,7 +1,5 @@
 -- A plate after a sound header.
 use mathlib.Core.Path.{◌≡◌}
-use mathlib.Core.List.{List}
-use Prim.Native.Nat.{ℕ}
 use lib.ListN.{length, drop}
 use Rattle.pgm.specs.File.{raster_refusal}
 use Rattle.theory_lists.proofs.Lists.{take_rest}
@@ -9,28 +7,22 @@ use Rattle.pgm.proofs.Reading.{plate_refused, plate_fits, plate_read}
 use Rattle.pgm.proofs.read_plate.Goals as goal
 use Rattle.pgm.proofs.read_plate.Goals.{After-raster_refusal-refusal}
 
-abbrev bytes : (c : After-raster_refusal-refusal) → List ℕ
-bytes c = c.args.file.now
-
-abbrev raster : (c : After-raster_refusal-refusal) → List ℕ
-raster c = drop c.args.at (bytes c)
-
-abbrev out : (c : After-raster_refusal-refusal) → List ℕ
-out c = c.args.out.now
-
+-- the number of the refusal
 number : (c : After-raster_refusal-refusal) → let a = c.args in
-    c.raster_refusal-refusal.result ≡ raster_refusal a.width a.height a.greatest (raster c) (length (out c))
-number c = rw (take_rest (bytes c) c.args.at) at c.raster_refusal-refusal.ensures
+    c.raster_refusal-refusal.result ≡ raster_refusal a.width a.height a.greatest (drop a.at a.file.now) (length a.out.now)
+number c = rw (take_rest c.args.file.now c.args.at) at c.raster_refusal-refusal.ensures
 
 pub returns-then-refusal-ne0 : goal.returns-then-refusal-ne0
 returns-then-refusal-ne0 c =
-    plate_refused _ _ _ (raster (goal.at.returns-then-refusal-ne0 c).After-raster_refusal-refusal) (out (goal.at.returns-then-refusal-ne0 c).After-raster_refusal-refusal) (number (goal.at.returns-then-refusal-ne0 c).After-raster_refusal-refusal) c.if-refusal-ne0.true c.refused_read.ensures
+    plate_refused _ _ _ (drop c.args.at c.args.file.now) c.args.out.now
+    (number (goal.at.returns-then-refusal-ne0 c).After-raster_refusal-refusal) c.if-refusal-ne0.true c.refused_read.ensures
 
 pub write_greys-requires : goal.write_greys-requires
 write_greys-requires c =
-    rw (take_rest (bytes (goal.at.write_greys-requires c).After-raster_refusal-refusal) c.args.at) (plate_fits _ _ _ (raster (goal.at.write_greys-requires c).After-raster_refusal-refusal) (out (goal.at.write_greys-requires c).After-raster_refusal-refusal) (number (goal.at.write_greys-requires c).After-raster_refusal-refusal) c.if-refusal-ne0.false)
+    rw (take_rest c.args.file.now c.args.at) (plate_fits _ _ _ (drop c.args.at c.args.file.now) c.args.out.now
+    (number (goal.at.write_greys-requires c).After-raster_refusal-refusal) c.if-refusal-ne0.false)
 
 pub returns : goal.returns
 returns c =
-    plate_read _ _ _ (raster (goal.at.returns c).After-raster_refusal-refusal) (out (goal.at.returns c).After-raster_refusal-refusal) (number (goal.at.returns c).After-raster_refusal-refusal) c.if-refusal-ne0.false
-    (rw (take_rest (bytes (goal.at.returns c).After-raster_refusal-refusal) c.args.at) at c.write_greys.ensures)
+    plate_read _ _ _ (drop c.args.at c.args.file.now) c.args.out.now (number (goal.at.returns c).After-raster_refusal-refusal) c.if-refusal-ne0.false
+    (rw (take_rest c.args.file.now c.args.at) at c.write_greys.ensures)

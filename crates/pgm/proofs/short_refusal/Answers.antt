@@ -26,8 +26,18 @@ raster_bytes-requires c = sizes (goal.at.raster_bytes-requires c).Else-not-grid_
 
 pub returns-then-follow-raster_bytes : goal.returns-then-follow-raster_bytes
 returns-then-follow-raster_bytes c =
-    rw (sizes (goal.at.returns-then-follow-raster_bytes c).Else-not-grid_fits, range (goal.at.returns-then-follow-raster_bytes c).Else-not-greatest_fits, ← c.raster_bytes.ensures, lt-ltb _ _ c.if-follow-raster_bytes.true)
+    rw (
+      sizes (goal.at.returns-then-follow-raster_bytes c).Else-not-grid_fits,
+      range (goal.at.returns-then-follow-raster_bytes c).Else-not-greatest_fits,
+      ← c.raster_bytes.ensures,
+      lt-ltb _ _ c.if-follow-raster_bytes.true,
+    )
 
 pub returns : goal.returns
 returns c =
-    rw (sizes (goal.at.returns c).Else-not-grid_fits, range (goal.at.returns c).Else-not-greatest_fits, ← c.raster_bytes.ensures, le-ltb _ _ c.if-follow-raster_bytes.false)
+    rw (
+      sizes (goal.at.returns c).Else-not-grid_fits,
+      range (goal.at.returns c).Else-not-greatest_fits,
+      ← c.raster_bytes.ensures,
+      le-ltb _ _ c.if-follow-raster_bytes.false,
+    )

@@ -18,7 +18,8 @@ returns-then-scan-ne0 c =
 
 pub returns-then-scan-number : goal.returns-then-scan-number
 returns-then-scan-number c =
-    let both = scan_beyond c.args.file.now c.args.number c.args.out.now c.scan_roll-scan.ensures c.if-scan-ne0.false c.if-scan-number.true c.refused_read-then-scan-number.ensures in
+    let both = scan_beyond c.args.file.now c.args.number c.args.out.now c.scan_roll-scan.ensures c.if-scan-ne0.false c.if-scan-number.true
+    c.refused_read-then-scan-number.ensures in
     record { value = both.0; out_after = both.1 }
 
 pub overflow_mul-plate : goal.overflow_mul-plate
@@ -29,7 +30,8 @@ overflow_cast-plate c = omega (arith, stands_few (stands (goal.at.overflow_cast-
 
 pub returns-then-out-plate : goal.returns-then-out-plate
 returns-then-out-plate c =
-    let both = scan_short c.args.file.now c.args.number c.args.out.now c.scan_roll-scan.ensures c.if-scan-ne0.false c.if-scan-number.false c.if-out-plate.true
+    let both = scan_short c.args.file.now c.args.number c.args.out.now c.scan_roll-scan.ensures c.if-scan-ne0.false c.if-scan-number.false
+    c.if-out-plate.true
     c.refused_read-then-out-plate.ensures in
     record { value = both.0; out_after = both.1 }
 
@@ -42,6 +44,7 @@ write_greys-requires c =
 
 pub returns : goal.returns
 returns c =
-    let both = scan_read c.args.file.now c.args.number c.args.out.now c.scan_roll-scan.ensures c.if-scan-ne0.false c.if-scan-number.false c.if-out-plate.false
+    let both = scan_read c.args.file.now c.args.number c.args.out.now c.scan_roll-scan.ensures c.if-scan-ne0.false c.if-scan-number.false
+    c.if-out-plate.false
     c.write_greys.ensures in
     record { value = both.0; out_after = both.1 }

@@ -33,7 +33,12 @@ overflow_add-count c = omega (arith, c.loop-at.invariant.few, c.loop-at.invarian
 
 pub loop-at-smaller : goal.loop-at-smaller
 loop-at-smaller c =
-    omega (arith, begins_far (begun (goal.at.loop-at-smaller c).Else-plate-ne0), (begins_stands (begun (goal.at.loop-at-smaller c).Else-plate-ne0)).till, c.loop-at-test.true)
+    omega (
+      arith,
+      begins_far (begun (goal.at.loop-at-smaller c).Else-plate-ne0),
+      (begins_stands (begun (goal.at.loop-at-smaller c).Else-plate-ne0)).till,
+      c.loop-at-test.true,
+    )
 
 pub loop-at-preserved : goal.loop-at-preserved
 loop-at-preserved c =

@@ -7,7 +7,11 @@ use Rattle.pgm_write.proofs.put_raster.Goals as goal
 
 pub put_bytes-requires : goal.put_bytes-requires
 put_bytes-requires c =
-    let one = c.if-pixel_bytes-eq1.true in record { image_in_bounds = omega (arith, c.requires.image_in_bounds, ap length (raster_bytes_lem c.args.greatest c.args.image.now c.pixel_bytes.ensures one)); image_value = bytes_low c.args.greatest c.args.image.now c.pixel_bytes.ensures one c.requires.image_value }
+    let one = c.if-pixel_bytes-eq1.true in
+    record {
+      image_in_bounds = omega (arith, c.requires.image_in_bounds, ap length (raster_bytes_lem c.args.greatest c.args.image.now c.pixel_bytes.ensures one));
+      image_value = bytes_low c.args.greatest c.args.image.now c.pixel_bytes.ensures one c.requires.image_value;
+    }
 
 pub returns-then-pixel_bytes-eq1 : goal.returns-then-pixel_bytes-eq1
 returns-then-pixel_bytes-eq1 c =

@@ -56,8 +56,10 @@ raster-few c = let M = c.args.greatest in
 
 pub returns-then-refusal-ne0 : goal.returns-then-refusal-ne0
 returns-then-refusal-ne0 c =
-    let a = c.args in let both = write_first a.width a.height a.greatest a.image.now a.out.now c.image_refusal-refusal.ensures c.if-refusal-ne0.true
-    c.refused_write.ensures in record { value = both.0; out_after = both.1 }
+    let a = c.args in
+    let both = write_first a.width a.height a.greatest a.image.now a.out.now c.image_refusal-refusal.ensures c.if-refusal-ne0.true
+    c.refused_write.ensures in
+    record { value = both.0; out_after = both.1 }
 
 pub overflow_mul-length : goal.overflow_mul-length
 overflow_mul-length c = omega (arith, raster-few (goal.at.overflow_mul-length c).After-pixel_bytes)
@@ -68,20 +70,34 @@ overflow_add-length c =
 
 pub returns-then-out-length : goal.returns-then-out-length
 returns-then-out-length c =
-    let a = c.args in let both = write_short a.width a.height a.greatest (image (goal.at.returns-then-out-length c).After-pixel_bytes) a.out.now (plate (goal.at.returns-then-out-length c).After-pixel_bytes) (omega (arith, c.if-out-length.true, size_is (goal.at.returns-then-out-length c).After-pixel_bytes))
-    c.refused_write-then-out-length.ensures in record { value = both.0; out_after = both.1 }
+    let a = c.args in
+    let both = write_short a.width a.height a.greatest c.args.image.now a.out.now
+    (plate (goal.at.returns-then-out-length c).After-pixel_bytes)
+    (omega (arith, c.if-out-length.true, size_is (goal.at.returns-then-out-length c).After-pixel_bytes))
+    c.refused_write-then-out-length.ensures in
+    record { value = both.0; out_after = both.1 }
 
 pub slice_bounds-put_word-end : goal.slice_bounds-put_word-end
 slice_bounds-put_word-end c =
-    header-long (goal.at.slice_bounds-put_word-end c).After-pixel_bytes ∙ sym (ap length (header_is (goal.at.slice_bounds-put_word-end c).After-pixel_bytes))
+    header-long (goal.at.slice_bounds-put_word-end c).After-pixel_bytes
+    ∙ sym (ap length (header_is (goal.at.slice_bounds-put_word-end c).After-pixel_bytes))
 
 pub put_word-requires : goal.put_word-requires
 put_word-requires c =
-    omega (arith, c.if-out-length.false, header-long (goal.at.put_word-requires c).After-pixel_bytes, ap length (header_is (goal.at.put_word-requires c).After-pixel_bytes))
+    omega (
+      arith,
+      c.if-out-length.false,
+      header-long (goal.at.put_word-requires c).After-pixel_bytes,
+      ap length (header_is (goal.at.put_word-requires c).After-pixel_bytes),
+    )
 
 pub put_raster-requires : goal.put_raster-requires
 put_raster-requires c =
-    let room : length c.args.out.now ≡ length c.put_word.new.text = sym (put_length c.put_word.ensures) in record { image_in_bounds = omega (arith, raster-size (goal.at.put_raster-requires c).After-pixel_bytes, c.if-out-length.false, room); image_value = above_none c.args.greatest (image (goal.at.put_raster-requires c).After-pixel_bytes) (plate (goal.at.put_raster-requires c).After-pixel_bytes).greys }
+    let room : length c.args.out.now ≡ length c.put_word.new.text = sym (put_length c.put_word.ensures) in
+    record {
+      image_in_bounds = omega (arith, raster-size (goal.at.put_raster-requires c).After-pixel_bytes, c.if-out-length.false, room);
+      image_value = above_none c.args.greatest c.args.image.now (plate (goal.at.put_raster-requires c).After-pixel_bytes).greys;
+    }
 
 pub returns : goal.returns
 unfolding pgm_of
@@ -93,5 +109,7 @@ returns c =
       room = omega (arith, c.if-out-length.false);
       stored = c.put_word.ensures.stored ∙ rw (header_is (goal.at.returns c).After-pixel_bytes);
     } in
-    let whole = put_put front c.put_raster.ensures in let both = write_done a.width a.height a.greatest (image (goal.at.returns c).After-pixel_bytes) a.out.now (plate (goal.at.returns c).After-pixel_bytes)
-    (omega (arith, c.if-out-length.false, size_is (goal.at.returns c).After-pixel_bytes)) (size_is (goal.at.returns c).After-pixel_bytes) whole.stored in record { value = both.0; out_after = both.1 }
+    let whole = put_put front c.put_raster.ensures in
+    let both = write_done a.width a.height a.greatest c.args.image.now a.out.now (plate (goal.at.returns c).After-pixel_bytes)
+    (omega (arith, c.if-out-length.false, size_is (goal.at.returns c).After-pixel_bytes)) (size_is (goal.at.returns c).After-pixel_bytes) whole.stored in
+    record { value = both.0; out_after = both.1 }

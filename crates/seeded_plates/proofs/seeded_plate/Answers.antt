@@ -25,8 +25,10 @@ room c = let a = c.args in
 
 pub returns-then-not-grid_fits : goal.returns-then-not-grid_fits
 returns-then-not-grid_fits c =
-    let a = c.args in let both = beyond_grid a.seed a.width a.height a.out.now
-    (sym c.grid_fits.ensures ∙ not-true c.grid_fits.result (ap not c.if-not-grid_fits.true)) in record { value = both.0; out_after = both.1 }
+    let a = c.args in
+    let both = beyond_grid a.seed a.width a.height a.out.now
+    (sym c.grid_fits.ensures ∙ not-true c.grid_fits.result (ap not c.if-not-grid_fits.true)) in
+    record { value = both.0; out_after = both.1 }
 
 pub overflow_mul-pixels : goal.overflow_mul-pixels
 overflow_mul-pixels c = omega (arith, few (goal.at.overflow_mul-pixels c).Else-not-grid_fits)
@@ -36,11 +38,17 @@ overflow_cast-pixels c = omega (arith, few (goal.at.overflow_cast-pixels c).Else
 
 pub returns-then-refusal-ne0 : goal.returns-then-refusal-ne0
 returns-then-refusal-ne0 c =
-    let a = c.args in let both = too_short a.seed a.width a.height a.out.now (fits (goal.at.returns-then-refusal-ne0 c).Else-not-grid_fits) c.out_refusal-refusal.ensures c.if-refusal-ne0.true in record { value = both.0; out_after = both.1 }
+    let a = c.args in
+    let both = too_short a.seed a.width a.height a.out.now (fits (goal.at.returns-then-refusal-ne0 c).Else-not-grid_fits)
+    c.out_refusal-refusal.ensures c.if-refusal-ne0.true in
+    record { value = both.0; out_after = both.1 }
 
 pub write_greys-requires : goal.write_greys-requires
 write_greys-requires c = room (goal.at.write_greys-requires c).Else-refusal-ne0
 
 pub returns : goal.returns
 returns c =
-    let a = c.args in let both = generated-whole a.seed a.width a.height a.out.now (fits (goal.at.returns c).Else-not-grid_fits) (room (goal.at.returns c).Else-refusal-ne0) c.write_greys.ensures in record { value = both.0; out_after = both.1 }
+    let a = c.args in
+    let both = generated-whole a.seed a.width a.height a.out.now (fits (goal.at.returns c).Else-not-grid_fits)
+    (room (goal.at.returns c).Else-refusal-ne0) c.write_greys.ensures in
+    record { value = both.0; out_after = both.1 }

@@ -25,4 +25,14 @@ unfolding rest_line bytes
 returns c =
     let a = c.args in
     let b = and-field (begin c.put_word-first.ensures) a.darkest c.put_field-second.ensures.put_text in
-    record { put_text = end_line (and-field b (ink_of a.greatest a.darkest) (rw (percentage-is (goal.at.returns c).After-ink_percentage-ink) at c.put_field-end.ensures.put_text)) c.put_end.ensures; upper_bound = omega (arith, c.put_word-first.ensures.after, c.put_field-second.ensures.upper_bound, c.put_field-end.ensures.upper_bound, c.put_end.ensures.after) }
+    record {
+      put_text = end_line (and-field b (ink_of a.greatest a.darkest) (rw (percentage-is (goal.at.returns c).After-ink_percentage-ink) at
+          c.put_field-end.ensures.put_text)) c.put_end.ensures;
+      upper_bound = omega (
+        arith,
+        c.put_word-first.ensures.after,
+        c.put_field-second.ensures.upper_bound,
+        c.put_field-end.ensures.upper_bound,
+        c.put_end.ensures.after,
+      );
+    }

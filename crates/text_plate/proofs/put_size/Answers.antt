@@ -7,7 +7,8 @@ use Rattle.text_plate.proofs.put_size.Goals as goal
 
 pub returns-then-count-eq0 : goal.returns-then-count-eq0
 returns-then-count-eq0 c =
-    let s = c.args in record {
+    let s = c.args in
+    record {
       put_text = rw (size_none s.counts.now s.losses.now s.i c.if-count-eq0.true)
           (put_nothing s.text.now s.at (omega (arith, c.requires.at_in_bounds)));
       upper_bound = omega arith;
@@ -25,4 +26,14 @@ pub returns : goal.returns
 returns c =
     let s = c.args in
     let b = and-field (begin c.put_decimal-second.ensures.put_text) (nth s.counts.now s.i) c.put_field-third.ensures.put_text in
-    let l = end_line (and-field b (nth s.losses.now s.i) c.put_field-end.ensures.put_text) c.put_end.ensures in record { put_text = rw (size_some s.counts.now s.losses.now s.i c.if-count-eq0.false) l; upper_bound = omega (arith, c.put_decimal-second.ensures.upper_bound, c.put_field-third.ensures.upper_bound, c.put_field-end.ensures.upper_bound, c.put_end.ensures.after) }
+    let l = end_line (and-field b (nth s.losses.now s.i) c.put_field-end.ensures.put_text) c.put_end.ensures in
+    record {
+      put_text = rw (size_some s.counts.now s.losses.now s.i c.if-count-eq0.false) l;
+      upper_bound = omega (
+        arith,
+        c.put_decimal-second.ensures.upper_bound,
+        c.put_field-third.ensures.upper_bound,
+        c.put_field-end.ensures.upper_bound,
+        c.put_end.ensures.after,
+      );
+    }

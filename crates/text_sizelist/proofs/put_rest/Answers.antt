@@ -25,5 +25,6 @@ unfolding rest_line bytes
 returns c =
     let a = c.args in
     let b = and-field (begin c.put_word-first.ensures) a.darkest c.put_field-second.ensures.put_text in
-    end_line (and-field b (ink_of a.greatest a.darkest) (rw (percentage-is (goal.at.returns c).After-ink_percentage-ink) at c.put_field-end.ensures.put_text))
+    end_line (and-field b (ink_of a.greatest a.darkest) (rw (percentage-is (goal.at.returns c).After-ink_percentage-ink) at
+    c.put_field-end.ensures.put_text))
     c.put_end.ensures
