@@ -1,9 +1,7 @@
 -- `text_roll::put_plates` meets its contract. The invariant: the texts of some plates are put, and those that are left begin at a place.
-use Prim.Native.Nat.{◌-◌}
 use native.Mathlib.Omega.{arith}
-use lib.ListN.{length}
 use Rattle.pgm_roll.proofs.Places.{begins_far, begins_stands}
-use Rattle.text_roll.proofs.Texts.{Putting, begun, put_here, putting_done, putting_first, putting_more}
+use Rattle.text_roll.proofs.Texts.{begun, put_here, putting_done, putting_first, putting_more}
 use Rattle.text_roll.proofs.put_plates.Goals as goal
 
 pub loop-at-init : goal.loop-at-init

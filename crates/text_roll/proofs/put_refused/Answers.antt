@@ -1,5 +1,4 @@
 -- `text_roll::put_refused` meets its contract: the line is put field by field.
-use borrow.Author.Rules.{rules}
 use Rattle.text_lines.proofs.Pieces.{and-field, begin, end_line}
 use Rattle.pgm.specs.Text.{bytes}
 use Rattle.text_roll.specs.Text.{refused_text}
