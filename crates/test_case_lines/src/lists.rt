@@ -1,5 +1,5 @@
 // Numbers printed one after the other, a space in front of each; equal ones in a row as `v*n`.
-ghost use Rattle.std.specs.Prelude.{◌+◌, ◌≤◌, ◌<◌, IfOk};
+ghost use Rattle.std.specs.Prelude.{◌+◌, ◌≤◌, ◌<◌};
 
 use std::io;
 
@@ -31,19 +31,26 @@ fn print_run(rt: &impl Print, run: Run) -> io::Result<()> {
     Ok(())
 }
 
-// One number more: it joins the run, or the run is printed and another begins.
-fn one_more(rt: &impl Print, run: Run, n: u64) -> io::Result<Run>
+// The run is printed where a number does not join it.
+fn print_ended(rt: &impl Print, run: Run, n: u64) -> io::Result<()> {
+    if run.value == n {
+        return Ok(());
+    }
+    print_run(rt, run)
+}
+
+// One number more: it joins the run, or another begins.
+fn one_more(run: Run, n: u64) -> Run
     requires { run.count < 18446744073709551615 }
-    ensures { IfOk result (λ r. r.count ≤ run.count + 1) }
+    ensures { result.count ≤ run.count + 1 }
 {
     if run.value == n {
-        return Ok(Run {
+        return Run {
             value: n,
             count: run.count + 1,
-        });
+        };
     }
-    print_run(rt, run)?;
-    Ok(Run { value: n, count: 1 })
+    Run { value: n, count: 1 }
 }
 
 fn byte(n: u8) -> u64 {
@@ -62,7 +69,9 @@ pub fn print_bytes(rt: &impl Print, list: &[u8]) -> io::Result<()> {
     let mut run = Run { value: 0, count: 0 };
     let mut i: usize = 0;
     while i < list.len() {
-        run = one_more(rt, run, byte(list[i]))?;
+        let n = byte(list[i]);
+        print_ended(rt, run, n)?;
+        run = one_more(run, n);
         i += 1;
     }
     print_run(rt, run)
@@ -72,7 +81,9 @@ pub fn print_greys(rt: &impl Print, list: &[u16]) -> io::Result<()> {
     let mut run = Run { value: 0, count: 0 };
     let mut i: usize = 0;
     while i < list.len() {
-        run = one_more(rt, run, grey(list[i]))?;
+        let n = grey(list[i]);
+        print_ended(rt, run, n)?;
+        run = one_more(run, n);
         i += 1;
     }
     print_run(rt, run)
@@ -82,7 +93,9 @@ pub fn print_words(rt: &impl Print, list: &[u32]) -> io::Result<()> {
     let mut run = Run { value: 0, count: 0 };
     let mut i: usize = 0;
     while i < list.len() {
-        run = one_more(rt, run, word(list[i]))?;
+        let n = word(list[i]);
+        print_ended(rt, run, n)?;
+        run = one_more(run, n);
         i += 1;
     }
     print_run(rt, run)
@@ -92,7 +105,9 @@ pub fn print_longs(rt: &impl Print, list: &[u64]) -> io::Result<()> {
     let mut run = Run { value: 0, count: 0 };
     let mut i: usize = 0;
     while i < list.len() {
-        run = one_more(rt, run, list[i])?;
+        let n = list[i];
+        print_ended(rt, run, n)?;
+        run = one_more(run, n);
         i += 1;
     }
     print_run(rt, run)
