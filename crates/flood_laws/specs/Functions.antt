@@ -7,7 +7,7 @@ use Rattle.meaning.specs.Plate.{connectivity_fits, max_pixels, max_extent}
 use Rattle.work_columns.specs.Columns.{CellStored, Frame, Put, Room, cell}
 use Rattle.work_columns.specs.Layout.{GREY, NAME, OWN, STACK, START, TOP, FLOODAREA, FLOODPARENT, FloodedColumns, level_in, touch_on}
 use Rattle.work_columns.specs.declared.PixelGrid.{PixelGrid}
-use Rattle.flood_directions.specs.Directions.{Beside}
+use Rattle.flood_directions.specs.Directions.{Beside, across, down}
 use Rattle.flood_open_levels.specs.Levels.{Changed, Layers, is_open}
 use Rattle.flood_laws.specs.Machine.{Mach, Fresh, work}
 
@@ -264,16 +264,16 @@ module _ (g : PixelGrid) where
     pub seen : r ≡ h → (q : ℕ) → q < n → Q q → cell OWN n w' q < n
     pub risen : (r ≡ h → ⊥) → Ready w' s' r
 
-  -- the pixel in direction d of the current one
-  abbrev pub LookedIn : List ℕ → List ℕ → List ℕ → List ℕ → ℕ → ℕ → ℕ → ℕ → ℕ → Type 0
-  LookedIn w w' s s' h x y d r = Looked w w' s s' h x y (λ (q : ℕ). Beside wd d (y * wd + x) q) r
+  -- the pixel in column x' of row y' lies in direction d of that in column x of row y
+  pub record InDirection (d x y x' y' : ℕ) : Type 0 where
+    pub across-is : x' + 1 ≡ x + across d
+    pub down_is : y' + 1 ≡ y + down d
+    pub column : x' < wd
+    pub row : y' < g.height
 
-  -- the neighbours of p in the row above, and in the row below, with connectivity 8
-  abbrev pub UpperRow : ℕ → ℕ → Type 0
-  UpperRow p q = (Beside wd 3 p q ⊎ Beside wd 4 p q) ⊎ Beside wd 6 p q
-
-  abbrev pub LowerRow : ℕ → ℕ → Type 0
-  LowerRow p q = (Beside wd 2 p q ⊎ Beside wd 5 p q) ⊎ Beside wd 7 p q
+  -- q is the neighbour of p in direction d, where the connectivity has that direction
+  abbrev pub Neighbour : ℕ → ℕ → ℕ → Type 0
+  Neighbour d p q = (d < g.connectivity) × Beside wd d p q
 
   -- some pixels are visited, none is current, and the lightest open level is r
   pub record Visited (w w' s s' : List ℕ) (r : ℕ) : Type 0 where
