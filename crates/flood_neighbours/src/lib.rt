@@ -1,7 +1,7 @@
 // The neighbours of a pixel, looked at until the flood rises.
 #![tactic(auto)]
 
-ghost use Rattle.std.specs.Prelude.{◌≡◌, ◌+◌, ◌*◌, ◌/◌, ◌%◌, ◌<◌, IfSome, MatchOption};
+ghost use Rattle.std.specs.Prelude.{◌≡◌, ◌⊎◌, ◌+◌, ◌*◌, ◌/◌, ◌%◌, ◌<◌, ◌≤◌, IfSome, MatchOption};
 ghost use Rattle.std.specs.Option.{unwrap_or};
 ghost use Rattle.flood_directions.specs.Directions.{Leads};
 ghost use Rattle.flood_laws.specs.Functions.{InDirection, Looked, Looking, Neighbour, NewLevel, Toward, Visited};
@@ -68,16 +68,32 @@ impl Pixel {
     // The pixel next to it in direction D, None where the grid has none there.
     fn neighbour<const D: usize>(self, g: PixelGrid) -> Option<Pixel>
         requires direction { D < 8 }
-        requires small { (self.x < 65536) × (self.y < 65536) }
+        requires inside { (self.x < g.width) × (self.y < g.height) }
         ensures { MatchOption result (Leads g.width g.height D self.x self.y → ⊥)
             (λ to. InDirection g D self.x self.y to.x to.y) }
     {
-        let x = self.x + ACROSS[D];
-        let y = self.y + DOWN[D];
-        if x == 0 || g.width < x || y == 0 || g.height < y {
-            return None;
+        Some(Pixel {
+            x: moved(self.x, ACROSS[D], g.width)?,
+            y: moved(self.y, DOWN[D], g.height)?,
+        })
+    }
+}
+
+// One back from i where the step is 0, i where it is 1, one on where it is 2; None where that is not from 0 to the end.
+fn moved(i: usize, step: usize, end: usize) -> Option<usize>
+    requires inside { i < end }
+    requires steps { step < 3 }
+    ensures { MatchOption result ((1 ≤ i + step → ⊥) ⊎ (i + step ≤ end → ⊥)) (λ k. (k + 1 ≡ i + step) × (k < end)) }
+{
+    match step {
+        0 => i.checked_sub(1),
+        1 => Some(i),
+        _ => {
+            if end <= i + 1 {
+                return None;
+            }
+            Some(i + 1)
         }
-        Some(Pixel { x: x - 1, y: y - 1 })
     }
 }
 
@@ -108,6 +124,7 @@ fn rise(
 
 // Looks at the pixel `to`, which touches the current pixel, `at`: a new pixel, which holds n plus its level, is pushed. The level to which the
 // flood has risen, where it has; then `at` is back on its stack.
+#[inline(always)]
 fn look(w: &mut [u32], s: &mut [u64], g: PixelGrid, at: Pixel, to: Pixel, h: usize) -> Option<usize>
     requires looking { Looking g w.old s.old h at.x at.y }
     requires toward { Toward g at.x at.y to.x to.y }
