@@ -4,11 +4,13 @@
 ghost use Rattle.std.specs.Prelude.{◌≡◌, ◌⊎◌, ◌+◌, ◌*◌, ◌/◌, ◌%◌, ◌<◌, ◌≤◌, IfSome, MatchOption};
 ghost use Rattle.std.specs.Option.{unwrap_or};
 ghost use Rattle.flood_directions.specs.Directions.{Leads};
+ghost use Rattle.flood_neighbours.specs.Steps.{places};
 ghost use Rattle.flood_laws.specs.Functions.{InDirection, Looked, Looking, Neighbour, NewLevel, Toward, Visited};
 
+use Step::{Back, On, Stay};
 use work_columns::{NAME, OWN, PixelGrid, get, get_pair};
 
-// The directions in the order in which flood_directions numbers them, so that a connectivity is the number of its directions.
+// The directions, which a const parameter names by a number: in the order of flood_directions, so that a connectivity is the number of its directions.
 const RIGHT: usize = 0;
 
 const LEFT: usize = 1;
@@ -25,10 +27,18 @@ const UPPER_RIGHT: usize = 6;
 
 const LOWER_LEFT: usize = 7;
 
-// By direction, one more than the columns and one more than the rows to go.
-const ACROSS: [usize; 8] = [2, 0, 1, 1, 0, 2, 2, 0];
+// A step along a row or a column.
+#[derive(Clone, Copy)]
+enum Step {
+    Back,
+    Stay,
+    On,
+}
 
-const DOWN: [usize; 8] = [1, 1, 2, 0, 0, 2, 0, 2];
+// By direction, the step along the row and the step along the column.
+const ACROSS: [Step; 8] = [On, Back, Stay, Stay, Back, On, On, Back];
+
+const DOWN: [Step; 8] = [Stay, Stay, On, Back, Back, On, Back, On];
 
 // The pixel in column x of row y.
 #[derive(Clone, Copy)]
@@ -79,16 +89,16 @@ impl Pixel {
     }
 }
 
-// One back from i where the step is 0, i where it is 1, one on where it is 2; None where that is not from 0 to the end.
-fn moved(i: usize, step: usize, end: usize) -> Option<usize>
-    requires inside { i < end }
-    requires steps { step < 3 }
-    ensures { MatchOption result ((1 ≤ i + step → ⊥) ⊎ (i + step ≤ end → ⊥)) (λ k. (k + 1 ≡ i + step) × (k < end)) }
+// The place one step from i, None where that is not from 0 to the end. A test of both borders for each step, by `checked_add_signed`, took up to 1.3
+// times as long.
+fn moved(i: usize, step: Step, end: usize) -> Option<usize>
+    requires { i < end }
+    ensures { MatchOption result ((1 ≤ i + places step → ⊥) ⊎ (i + places step ≤ end → ⊥)) (λ k. (k + 1 ≡ i + places step) × (k < end)) }
 {
     match step {
-        0 => i.checked_sub(1),
-        1 => Some(i),
-        _ => {
+        Back => i.checked_sub(1),
+        Stay => Some(i),
+        On => {
             if end <= i + 1 {
                 return None;
             }
@@ -123,7 +133,7 @@ fn rise(
 }
 
 // Looks at the pixel `to`, which touches the current pixel, `at`: a new pixel, which holds n plus its level, is pushed. The level to which the
-// flood has risen, where it has; then `at` is back on its stack.
+// flood has risen, where it has; then `at` is back on its stack. Left out of line it takes 1.5 times as long.
 #[inline(always)]
 fn look(w: &mut [u32], s: &mut [u64], g: PixelGrid, at: Pixel, to: Pixel, h: usize) -> Option<usize>
     requires looking { Looking g w.old s.old h at.x at.y }

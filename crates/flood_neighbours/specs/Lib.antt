@@ -1,0 +1,2 @@
+-- The steps to a neighbour.
+pub mod Steps
