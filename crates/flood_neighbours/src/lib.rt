@@ -89,7 +89,7 @@ impl Pixel {
     }
 }
 
-// The place one step from i, None where that is not from 0 to the end. A test of both borders for each step, by `checked_add_signed`, took up to 1.3
+// The place one step from i, None where that is not from 0 to the end. One formula for the three steps tests both borders at each, and took up to 1.3
 // times as long.
 fn moved(i: usize, step: Step, end: usize) -> Option<usize>
     requires { i < end }
