@@ -235,8 +235,8 @@ module _ {w : List ℕ} {n : ℕ} (r : Room w n) (i v : ℕ) (l : i < n) where
   ]
 
 -- an entry of column c, 5 or 6
-pub pair-entry : (n : ℕ) (w : List ℕ) (i c : ℕ) → i < n → 4 < c → c < 7 → cell c n w i ≡ get_or w (5 * n + (2 * i + (6 - c))) 0
-pair-entry n w i c l a b = elim (same_or_not c 5) [
+pub pair_entry : (n : ℕ) (w : List ℕ) (i c : ℕ) → i < n → 4 < c → c < 7 → cell c n w i ≡ get_or w (5 * n + (2 * i + (6 - c))) 0
+pair_entry n w i c l a b = elim (same_or_not c 5) [
   | inl e ↦ rw e (pair_in 1 n w i l)
   | inr e ↦ let f : c ≡ 6 = omega arith in rw f (pair_in 0 n w i l)
 ]
