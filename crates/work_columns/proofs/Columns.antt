@@ -9,6 +9,7 @@ use native.Mathlib.Nat.{mul-le-mul_right, suc-mul}
 use native.Mathlib.Decide.{dec_le, dec_lt}
 use native.Mathlib.Omega.{arith}
 use lib.Dec.{T, eqb, eqb→eq, ltb, ltb→lt, lt→ltb, nltb→le, not_T}
+use Rattle.std.proofs.lemmas.Bool.{eq-eqb, false≢true}
 use lib.ListN.{length, drop, get_or, replicate, set, length-set, get_or-eq_default}
 use lib.Seq.{get_or-set_same, get_or-set_other, drop-set-lt}
 use Rattle.meaning.specs.Answers.{work_after}
@@ -172,6 +173,10 @@ plain_stored {w} {w'} {n} {c} {i} {v} s e f = record {
           ap (λ (q : ℕ). get_or w' q 0) at ∙ sym (col_in 6 n w' (j - n) b)
           ∙ ap (λ (g : ℕ → ℕ). g (j - n)) (s.off 6 (omega arith) (λ x. f (sym x))) ∙ col_in 6 n w (j - n) b ∙ ap (λ (q : ℕ). get_or w q 0) (sym at)
     ]
+
+-- the same for a column that is a numeral: both tests are `refl`
+pub put_stored : {w w' : List ℕ} {n c i v : ℕ} → Stored w w' n c i v → eqb c 5 ≡ false → eqb c 6 ≡ false → CellStored w w' n c i v
+put_stored {c = c} s e f = plain_stored s (λ q. false≢true (sym e ∙ eq-eqb c 5 q)) (λ q. false≢true (sym f ∙ eq-eqb c 6 q))
 
 -- a store in a pair
 module _ {w : List ℕ} {n : ℕ} (r : Room w n) (i v : ℕ) (l : i < n) where
