@@ -39,6 +39,7 @@ fn rise(
 
 // Looks at the pixel `to`, which touches the current pixel, `at`: a new pixel, which holds n plus its level, is pushed. The answer is h, or the
 // level to which the flood has risen; then `at` is back on its stack.
+#[inline(always)]
 fn look(w: &mut [u32], s: &mut [u64], g: PixelGrid, at: Pixel, to: Pixel, h: usize) -> usize
     requires looking { Looking g w.old s.old h at.x at.y }
     requires toward { Toward g at.x at.y to.x to.y }
