@@ -6,6 +6,9 @@ ghost use Rattle.meaning.specs.Sets.{nth};
 ghost use Rattle.flood_open_levels.specs.Levels.{Layers, Openable, Changed, Shuttable, Shut, next_of};
 ghost use Rattle.flood_open_levels.specs.Words.{BitIs, Added, Removed, Nonempty, Highest, LightestUpTo};
 
+// The members that a word holds.
+const BITS: usize = u64::BITS as usize;
+
 // The first words of the three layers (specs/Levels.antt).
 const WORDS: usize = 0;
 
@@ -19,9 +22,9 @@ fn add(s: &mut [u64], b: usize, j: usize) -> bool
     requires { BitIs s.old b j 0 }
     ensures { Added s.old s.new b j result }
 {
-    let a = b + j / 64;
+    let a = b + j / BITS;
     let x = s[a];
-    s[a] = x + (1u64 << (j % 64));
+    s[a] = x + (1u64 << (j % BITS));
     x == 0
 }
 
@@ -31,19 +34,18 @@ fn remove(s: &mut [u64], b: usize, j: usize) -> bool
     requires { BitIs s.old b j 1 }
     ensures { Removed s.old s.new b j result }
 {
-    let a = b + j / 64;
-    let x = s[a] - (1u64 << (j % 64));
+    let a = b + j / BITS;
+    let x = s[a] - (1u64 << (j % BITS));
     s[a] = x;
     x == 0
 }
 
 // The greatest member in word a, which is not 0, of the layer that begins at word b.
-#[tactic(auto, using(crate::proofs::Bits::leading_bound, crate::proofs::Bits::highest))]
 fn greatest(s: &[u64], b: usize, a: usize) -> usize
     requires { Nonempty s.now b a }
     ensures { Highest (nth s.now (b + a)) a result }
 {
-    64 * a + (63 - u64::leading_zeros(s[b + a]) as usize)
+    BITS * a + s[b + a].ilog2() as usize
 }
 
 // The lightest open level below 4096 (b + 1), where word b of the middle layer is not 0.
@@ -60,9 +62,9 @@ pub fn open_level(s: &mut [u64], m: usize)
     requires { Openable s.old m }
     ensures { Changed s.old s.new m 1 }
 {
-    let a = m / 64;
+    let a = m / BITS;
     if add(s, WORDS, m) && add(s, MIDDLE, a) {
-        add(s, ROOT, a / 64);
+        add(s, ROOT, a / BITS);
     }
 }
 
@@ -71,11 +73,11 @@ pub fn shut_level(s: &mut [u64], h: usize) -> Option<usize>
     requires { Shuttable s.old h }
     ensures { Shut s.old s.new h (next_of result) }
 {
-    let a = h / 64;
+    let a = h / BITS;
     if !remove(s, WORDS, h) {
         return Some(greatest(s, WORDS, a));
     }
-    let b = a / 64;
+    let b = a / BITS;
     if !remove(s, MIDDLE, a) {
         return Some(lightest(s, b));
     }
