@@ -6,7 +6,6 @@ use native.Mathlib.Decide.{dec_le}
 use native.Mathlib.Numerals.{one-add}
 use native.Mathlib.Omega.{arith}
 use lib.Pow.{shr-shr, pow-lt, pow_mono}
-use lib.Count.{count_leading_zeros, leading_top}
 use Rattle.flood_open_levels.specs.Levels.{bit_at}
 use Rattle.flood_open_levels.specs.Words.{Highest}
 
@@ -37,30 +36,18 @@ leading_one (suc j) x l u = bit-suc x j ∙ leading_one j (x / 2) (omega (arith,
 pub shifted : (j : ℕ) → j < 64 → (1 * 2 ^ j) % 2 ^ 64 ≡ 2 ^ j
 shifted j l = omega (arith, pow-lt {i = j} {j = 64} l)
 
--- the zeros before the highest bit that is 1 give its place
-pub leading_bound : (x : ℕ) → 0 < x → x < 2 ^ 64 → count_leading_zeros 64 x ≤ 63
-leading_bound x p l = omega (arith, (leading_top 64 x p l).1)
-
-leading_most : (x : ℕ) → 0 < x → x < 2 ^ 64
-    → (bit_at x (63 - count_leading_zeros 64 x) ≡ 1) × ((j : ℕ) → bit_at x j ≡ 1 → j ≤ 63 - count_leading_zeros 64 x)
-leading_most x p l =
-    let t = leading_top 64 x p l in
-    let k : ℕ = t.0 in
-    let e : 63 - count_leading_zeros 64 x ≡ k = omega (arith, t.1) in (
-      ap (bit_at x) e ∙ leading_one k x t.2 t.3,
-      λ j d. elim (dec_le j k) [
-        | yes h ↦ omega arith
-        | no h ↦ omega (arith, bit_at_least j x d, pow_mono {i = suc k} {j = j} (omega arith), t.3)
-      ],
-    )
-
--- in word a of a layer
-pub highest : (a x : ℕ) → 0 < x → x < 2 ^ 64 → Highest x a (64 * a + (63 - count_leading_zeros 64 x))
-highest a x p l =
-    let k : ℕ = 63 - count_leading_zeros 64 x in
+-- the greatest member of word a of a layer, x, by its highest bit that is 1
+pub highest : (a x k : ℕ) → 2 ^ k ≤ x → x < 2 * 2 ^ k → k < 64 → Highest x a (64 * a + k)
+highest a x k l u b =
     let e : (64 * a + k) % 64 ≡ k = omega arith in
-    let m = leading_most x p l in
-    record { word = omega arith; here = ap (bit_at x) e ∙ m.0; most = λ j d. omega (arith, m.1 j d) }
+    record {
+      word = omega arith;
+      here = ap (bit_at x) e ∙ leading_one k x l (omega (arith, pow-suc 2 k));
+      most = λ j d. elim (dec_le j k) [
+        | yes h ↦ omega arith
+        | no h ↦ omega (arith, bit_at_least j x d, pow_mono {i = suc k} {j = j} (omega arith), pow-suc 2 k)
+      ];
+    }
 
 -- ---- 2 ^ j is added where bit j is 0
 

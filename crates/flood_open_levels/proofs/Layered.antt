@@ -1,5 +1,6 @@
 -- Laws of the three layers: a store in one layer, a level added or removed by stores in one to three layers, the lightest level that is left.
 use mathlib.Core.Path.{◌≡◌, refl, sym, ap, ◌∙◌, subst}
+use mathlib.Core.Bool.{Bool}
 use mathlib.Core.List.{List}
 use Prim.Native.Nat.{ℕ, ◌+◌, ◌-◌, ◌/◌, ◌%◌, ◌^◌, ◌≤◌, ◌<◌}
 use native.Mathlib.Decide.{dec_le}
@@ -43,20 +44,19 @@ layer_updated b n s s' j v x f l e m =
       tail = λ h. ap (drop 1041) e ∙ drop-set-lt 1041 s (b + j / 64) x (omega arith);
     }
 
-pub layer_set : {n : ℕ} {s s' : List ℕ} {b j r : ℕ} → BitIs s b j 0 → Added s s' b j r → b + n ≤ length s → j / 64 < n
+pub layer_set : {n : ℕ} {s s' : List ℕ} {b j : ℕ} {r : Bool} → BitIs s b j 0 → Added s s' b j r → b + n ≤ length s → j / 64 < n
     → LayerUpdated b n s s' j 1 (word_of s b j + 2 ^ (j % 64))
 layer_set {n} {s} {s'} {b} {j} h a f l =
     let m = updated_set (part b n s) j (omega (arith, part_length b n s f)) (bit_in_layer b n s j l ∙ h.is) in
     layer_updated b n s s' j 1 (word_of s b j + 2 ^ (j % 64)) f l a.stored
     (subst (λ (y : ℕ). Updated (part b n s) (set (part b n s) (j / 64) (y + 2 ^ (j % 64))) j 1) (part_in b n s (j / 64) l) m)
 
-pub layer_cleared : {n : ℕ} {s s' : List ℕ} {b j r : ℕ} → BitIs s b j 1 → Removed s s' b j r → b + n ≤ length s → j / 64 < n
-    → LayerUpdated b n s s' j 0 r
-layer_cleared {n} {s} {s'} {b} {j} {r} h a f l =
+pub layer_cleared : {n : ℕ} {s s' : List ℕ} {b j : ℕ} {r : Bool} → BitIs s b j 1 → Removed s s' b j r → b + n ≤ length s → j / 64 < n
+    → LayerUpdated b n s s' j 0 (word_of s b j - 2 ^ (j % 64))
+layer_cleared {n} {s} {s'} {b} {j} h a f l =
     let m = updated_cleared (part b n s) j (omega (arith, part_length b n s f)) (bit_in_layer b n s j l ∙ h.is) in
-    let e : nth (part b n s) (j / 64) - 2 ^ (j % 64) ≡ r = ap (λ (y : ℕ). y - 2 ^ (j % 64)) (part_in b n s (j / 64) l) ∙ sym a.word in
-    layer_updated b n s s' j 0 r f l (a.stored ∙ ap (set s (b + j / 64)) (sym a.word))
-    (subst (λ (y : ℕ). Updated (part b n s) (set (part b n s) (j / 64) y) j 0) e m)
+    layer_updated b n s s' j 0 (word_of s b j - 2 ^ (j % 64)) f l a.stored
+    (subst (λ (y : ℕ). Updated (part b n s) (set (part b n s) (j / 64) (y - 2 ^ (j % 64))) j 0) (part_in b n s (j / 64) l) m)
 
 -- ---- a summary after a store
 

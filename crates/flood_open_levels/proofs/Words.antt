@@ -1,10 +1,15 @@
 -- Laws of a set in words: a part of the slice as such a set, one bit changed, the summary above, the greatest member of a word.
 use mathlib.Core.Path.{◌≡◌, sym, ap, ◌∙◌, subst}
+use mathlib.Core.Bool.{Bool, true, false}
+use mathlib.Core.Logic.{inl, inr}
 use mathlib.Core.List.{List}
 use Prim.Native.Nat.{ℕ, ◌+◌, ◌-◌, ◌/◌, ◌%◌, ◌^◌, ◌≤◌, ◌<◌}
 use native.Mathlib.Decide.{dec_le, ℕ_discrete}
+use native.Mathlib.Nat.{pos_of_ne-zero}
 use native.Mathlib.Omega.{arith}
-use lib.Dec.{ltb, ltb→lt, lt→ltb}
+use Rattle.std.proofs.lemmas.Bool.{eqb-true, true≢false}
+use Rattle.std.proofs.lemmas.Bool.Decides.{eqb_tells}
+use lib.Dec.{eqb, ltb, ltb→lt, lt→ltb}
 use lib.Pow.{pow_pos}
 use lib.ListN.{length, set, take, drop, length-take, length-drop, get_or-eq_default}
 use lib.Seq.{get_or-set_same, get_or-set_other, get_or-take, get_or-drop, take-set-lt, take-set-le, drop-set-add, drop-set-lt}
@@ -24,6 +29,16 @@ positive_signum x e = ltb→lt 0 x (bit-true (ltb 0 x) (omega arith))
 
 pub signum-zero : (x : ℕ) → x ≡ 0 → signum x ≡ 0
 signum-zero x e = ap signum e
+
+-- a test of a word for 0
+pub zero_word : {x : ℕ} {r : Bool} → r ≡ eqb x 0 → r ≡ true → x ≡ 0
+zero_word {x} e t = eqb-true x 0 (sym e ∙ t)
+
+pub nonzero_word : {x : ℕ} {r : Bool} → r ≡ eqb x 0 → r ≡ false → 0 < x
+nonzero_word {x} e t = elim (eqb_tells x 0) [
+  | inl y ↦ absurd (true≢false (sym y.0 ∙ sym e ∙ t))
+  | inr y ↦ pos_of_ne-zero y.1
+]
 
 -- ---- a part of the slice
 

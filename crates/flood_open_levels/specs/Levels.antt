@@ -1,7 +1,7 @@
 -- The set of open levels, numbers below 65,536, as three layers of bits in the first 1,041 words of a slice. The words 0 to 1,023 hold the set: bit j of
 -- word a is 1 where 64 a + j is a member. The words 1,024 to 1,039 hold in the same way the set of the words that are not 0, and the word 1,040 that of
 -- the words 1,024 to 1,039 that are not 0.
-use Rattle.std.specs.Prelude.{◌≡◌, List, ℕ, ◌+◌, ◌-◌, ◌/◌, ◌%◌, ◌^◌, ◌≤◌, ◌<◌, ltb, length, take, drop}
+use Rattle.std.specs.Prelude.{◌≡◌, List, ℕ, ◌+◌, ◌-◌, ◌/◌, ◌%◌, ◌^◌, ◌≤◌, ◌<◌, ltb, length, take, drop, Option, Some, None}
 use Rattle.meaning.specs.Sets.{bit, nth}
 
 -- bit j of x
@@ -48,6 +48,11 @@ is_open s m = member (words s) m
 pub record Lightest (s : List ℕ) (u : ℕ) : Type 0 where
   pub above : (l : ℕ) → is_open s l ≡ 1 → l < u
   pub held : 0 < u → is_open s (u - 1) ≡ 1
+
+-- one more than the level, 0 where there is none
+abbrev pub next_of : Option ℕ → ℕ
+next_of None = 0
+next_of (Some l) = l + 1
 
 -- s' holds the set of s, but for the level m, which is open where v is 1; after the layers s' is s
 pub record Changed (s s' : List ℕ) (m v : ℕ) : Type 0 where

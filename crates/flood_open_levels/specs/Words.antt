@@ -1,5 +1,5 @@
 -- What the private functions ask and ensure. b is the first word of a layer.
-use Rattle.std.specs.Prelude.{◌≡◌, List, ℕ, ◌+◌, ◌-◌, ◌/◌, ◌%◌, ◌^◌, ◌≤◌, ◌<◌, length, set}
+use Rattle.std.specs.Prelude.{◌≡◌, List, ℕ, ◌+◌, ◌-◌, ◌/◌, ◌%◌, ◌^◌, ◌≤◌, ◌<◌, Bool, nat_eq, length, set}
 use Rattle.meaning.specs.Sets.{nth}
 use Rattle.flood_open_levels.specs.Levels.{bit_at, is_open}
 
@@ -12,14 +12,14 @@ pub record BitIs (s : List ℕ) (b j v : ℕ) : Type 0 where
   pub inside : b + j / 64 < length s
   pub is : bit_at (word_of s b j) (j % 64) ≡ v
 
--- j is added; r is its word before
-pub record Added (s s' : List ℕ) (b j r : ℕ) : Type 0 where
-  pub word : r ≡ word_of s b j
+-- j is added; r: its word was 0
+pub record Added (s s' : List ℕ) (b j : ℕ) (r : Bool) : Type 0 where
+  pub word : r ≡ nat_eq (word_of s b j) 0
   pub stored : s' ≡ set s (b + j / 64) (word_of s b j + 2 ^ (j % 64))
 
--- j is removed; r is its word after
-pub record Removed (s s' : List ℕ) (b j r : ℕ) : Type 0 where
-  pub word : r ≡ word_of s b j - 2 ^ (j % 64)
+-- j is removed; r: its word is 0 then
+pub record Removed (s s' : List ℕ) (b j : ℕ) (r : Bool) : Type 0 where
+  pub word : r ≡ nat_eq (word_of s b j - 2 ^ (j % 64)) 0
   pub stored : s' ≡ set s (b + j / 64) (word_of s b j - 2 ^ (j % 64))
 
 -- word a of the layer is not 0

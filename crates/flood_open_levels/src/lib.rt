@@ -3,8 +3,11 @@
 
 ghost use Rattle.std.specs.Prelude.{◌+◌, ◌<◌};
 ghost use Rattle.meaning.specs.Sets.{nth};
-ghost use Rattle.flood_open_levels.specs.Levels.{Layers, Openable, Changed, Shuttable, Shut};
+ghost use Rattle.flood_open_levels.specs.Levels.{Layers, Openable, Changed, Shuttable, Shut, next_of};
 ghost use Rattle.flood_open_levels.specs.Words.{BitIs, Added, Removed, Nonempty, Highest, LightestUpTo};
+
+// The members that a word holds.
+const BITS: usize = u64::BITS as usize;
 
 // The first words of the three layers (specs/Levels.antt).
 const WORDS: usize = 0;
@@ -13,26 +16,28 @@ const MIDDLE: usize = 1024;
 
 const ROOT: usize = 1040;
 
-// Adds j, which is not a member, to the layer that begins at word b; j's word before.
-fn add(s: &mut [u64], b: usize, j: usize) -> u64
+// Adds j, which is not a member, to the layer that begins at word b; whether j's word was 0.
+#[tactic(auto, using(crate::proofs::Bits::shifted, crate::proofs::Bits::added_fits))]
+fn add(s: &mut [u64], b: usize, j: usize) -> bool
     requires { BitIs s.old b j 0 }
     ensures { Added s.old s.new b j result }
 {
-    let a = b + j / 64;
+    let a = b + j / BITS;
     let x = s[a];
-    s[a] = x + (1u64 << (j % 64));
-    x
+    s[a] = x + (1u64 << (j % BITS));
+    x == 0
 }
 
-// Removes j, which is a member, from the layer that begins at word b; j's word after.
-fn remove(s: &mut [u64], b: usize, j: usize) -> u64
+// Removes j, which is a member, from the layer that begins at word b; whether j's word is 0 now.
+#[tactic(auto, using(crate::proofs::Bits::shifted, crate::proofs::Bits::bit_at_least))]
+fn remove(s: &mut [u64], b: usize, j: usize) -> bool
     requires { BitIs s.old b j 1 }
     ensures { Removed s.old s.new b j result }
 {
-    let a = b + j / 64;
-    let x = s[a] - (1u64 << (j % 64));
+    let a = b + j / BITS;
+    let x = s[a] - (1u64 << (j % BITS));
     s[a] = x;
-    x
+    x == 0
 }
 
 // The greatest member in word a, which is not 0, of the layer that begins at word b.
@@ -40,7 +45,7 @@ fn greatest(s: &[u64], b: usize, a: usize) -> usize
     requires { Nonempty s.now b a }
     ensures { Highest (nth s.now (b + a)) a result }
 {
-    64 * a + (63 - u64::leading_zeros(s[b + a]) as usize)
+    BITS * a + s[b + a].ilog2() as usize
 }
 
 // The lightest open level below 4096 (b + 1), where word b of the middle layer is not 0.
@@ -57,32 +62,28 @@ pub fn open_level(s: &mut [u64], m: usize)
     requires { Openable s.old m }
     ensures { Changed s.old s.new m 1 }
 {
-    if add(s, WORDS, m) != 0 {
-        return;
+    let a = m / BITS;
+    if add(s, WORDS, m) && add(s, MIDDLE, a) {
+        add(s, ROOT, a / BITS);
     }
-    let a = m / 64;
-    if add(s, MIDDLE, a) != 0 {
-        return;
-    }
-    add(s, ROOT, a / 64);
 }
 
-// Shuts the lightest open level h; one more than the lightest that is left, 0 where none is.
-pub fn shut_level(s: &mut [u64], h: usize) -> usize
+// Shuts the lightest open level h; the lightest that is left, if there is one.
+pub fn shut_level(s: &mut [u64], h: usize) -> Option<usize>
     requires { Shuttable s.old h }
-    ensures { Shut s.old s.new h result }
+    ensures { Shut s.old s.new h (next_of result) }
 {
-    let a = h / 64;
-    if remove(s, WORDS, h) != 0 {
-        return greatest(s, WORDS, a) + 1;
+    let a = h / BITS;
+    if !remove(s, WORDS, h) {
+        return Some(greatest(s, WORDS, a));
     }
-    let b = a / 64;
-    if remove(s, MIDDLE, a) != 0 {
-        return lightest(s, b) + 1;
+    let b = a / BITS;
+    if !remove(s, MIDDLE, a) {
+        return Some(lightest(s, b));
     }
-    if remove(s, ROOT, b) == 0 {
-        return 0;
+    if remove(s, ROOT, b) {
+        return None;
     }
     let d = greatest(s, ROOT, 0);
-    lightest(s, d) + 1
+    Some(lightest(s, d))
 }

@@ -9,6 +9,7 @@ use native.Mathlib.Nat.{mul-le-mul_right, suc-mul}
 use native.Mathlib.Decide.{dec_le, dec_lt}
 use native.Mathlib.Omega.{arith}
 use lib.Dec.{T, eqb, eqb→eq, ltb, ltb→lt, lt→ltb, nltb→le, not_T}
+use Rattle.std.proofs.lemmas.Bool.{eq-eqb, false≢true}
 use lib.ListN.{length, drop, get_or, replicate, set, length-set, get_or-eq_default}
 use lib.Seq.{get_or-set_same, get_or-set_other, drop-set-lt}
 use Rattle.meaning.specs.Answers.{work_after}
@@ -173,6 +174,10 @@ plain_stored {w} {w'} {n} {c} {i} {v} s e f = record {
           ∙ ap (λ (g : ℕ → ℕ). g (j - n)) (s.off 6 (omega arith) (λ x. f (sym x))) ∙ col_in 6 n w (j - n) b ∙ ap (λ (q : ℕ). get_or w q 0) (sym at)
     ]
 
+-- the same for a column that is a numeral: both tests are `refl`
+pub put_stored : {w w' : List ℕ} {n c i v : ℕ} → Stored w w' n c i v → eqb c 5 ≡ false → eqb c 6 ≡ false → CellStored w w' n c i v
+put_stored {c = c} s e f = plain_stored s (λ q. false≢true (sym e ∙ eq-eqb c 5 q)) (λ q. false≢true (sym f ∙ eq-eqb c 6 q))
+
 -- a store in a pair
 module _ {w : List ℕ} {n : ℕ} (r : Room w n) (i v : ℕ) (l : i < n) where
   pair_place : (k : ℕ) → k < 2 → 5 * n + (2 * i + k) < length w
@@ -235,8 +240,8 @@ module _ {w : List ℕ} {n : ℕ} (r : Room w n) (i v : ℕ) (l : i < n) where
   ]
 
 -- an entry of column c, 5 or 6
-pub pair-entry : (n : ℕ) (w : List ℕ) (i c : ℕ) → i < n → 4 < c → c < 7 → cell c n w i ≡ get_or w (5 * n + (2 * i + (6 - c))) 0
-pair-entry n w i c l a b = elim (same_or_not c 5) [
+pub pair_entry : (n : ℕ) (w : List ℕ) (i c : ℕ) → i < n → 4 < c → c < 7 → cell c n w i ≡ get_or w (5 * n + (2 * i + (6 - c))) 0
+pair_entry n w i c l a b = elim (same_or_not c 5) [
   | inl e ↦ rw e (pair_in 1 n w i l)
   | inr e ↦ let f : c ≡ 6 = omega arith in rw f (pair_in 0 n w i l)
 ]

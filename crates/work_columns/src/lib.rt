@@ -29,7 +29,7 @@ pub fn shape_of(pixels: usize, width: u32, height: u32, greatest: u32, connectiv
     ensures { result ≡ shape_of pixels width height greatest connectivity }
 {
     Shape {
-        pixels: pixels,
+        pixels,
         width: width as usize,
         height: height as usize,
         greatest: greatest as usize,
@@ -37,7 +37,7 @@ pub fn shape_of(pixels: usize, width: u32, height: u32, greatest: u32, connectiv
     }
 }
 
-// ---- the columns, as specs/Layout.antt names them
+// ---- the columns, as specs/Layout.antt names them: column c begins at entry c * n, so a column is its number, and has a name for each stage
 
 // By pixel: its grey; its node (while flooding, n plus its level where it has none yet).
 pub const GREY: usize = 0;
@@ -78,6 +78,7 @@ pub const ATTRIBUTE: usize = 6;
 pub const VALUE: usize = 4;
 
 // The entry i of column c.
+#[tactic(auto, using(crate::proofs::Columns::col_in))]
 pub fn get(w: &[u32], n: usize, c: usize, i: usize) -> usize
     requires room { Room w.now n }
     requires c_bound { (c < 8) × (i < n) }
@@ -96,6 +97,7 @@ pub fn put(w: &mut [u32], n: usize, c: usize, i: usize, v: usize)
 }
 
 // The entry i of column c, 5 or 6, where the two stand side by side: entry i of 6, then entry i of 5.
+#[tactic(auto, using(crate::proofs::Columns::pair_entry))]
 pub fn get_pair(w: &[u32], n: usize, c: usize, i: usize) -> usize
     requires room { Room w.now n }
     requires lt_c { (4 < c) × ((c < 7) × (i < n)) }
@@ -118,10 +120,5 @@ pub fn clear(w: &mut [u32], n: usize)
     requires { Room w.old n }
     ensures { w.new ≡ replicate (8 * n) 0 ++ drop (8 * n) w.old }
 {
-    let end = 8 * n;
-    let mut i: usize = 0;
-    while i < end {
-        w[i] = 0;
-        i += 1;
-    }
+    w[..8 * n].fill(0);
 }
