@@ -38,7 +38,7 @@ fn rise(
 }
 
 // Looks at the pixel `to`, which touches the current pixel, `at`: a new pixel, which holds n plus its level, is pushed. The answer is h, or the
-// level to which the flood has risen; then `at` is back on its stack. Out of line, its calls would double the time with connectivity 8.
+// level to which the flood has risen; then `at` is back on its stack. Out of line, its calls take up to twice as long with connectivity 8.
 #[inline(always)]
 fn look(w: &mut [u32], s: &mut [u64], g: PixelGrid, at: Pixel, to: Pixel, h: usize) -> usize
     requires looking { Looking g w.old s.old h at.x at.y }
