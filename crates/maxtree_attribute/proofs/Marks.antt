@@ -1,16 +1,13 @@
 -- Laws of marks: a store is one, marks follow one another, and the pixels that pass may be said in another way; areas copied from the front.
-use mathlib.Core.Path.{◌≡◌, refl, sym, ap, ◌∙◌}
+use mathlib.Core.Path.{◌≡◌, sym, ap, ◌∙◌}
 use mathlib.Core.Logic.{◌⊎◌, inl, inr}
 use mathlib.Core.List.{List}
-use Prim.Native.Nat.{ℕ, ◌+◌, ◌*◌, ◌<◌}
-use native.Mathlib.Decide.{dec_lt}
+use Prim.Native.Nat.{ℕ, ◌+◌, ◌<◌}
 use native.Mathlib.Omega.{arith}
-use lib.Dec.{eqb, eqb→eq, eqb_refl}
-use Rattle.theory_lists.proofs.Tests.{choice}
 use Rattle.work_columns.specs.Columns.{Only, Stored, col}
 use Rattle.work_columns.specs.Layout.{AREA, ATTRIBUTE, OWN}
-use Rattle.work_columns.proofs.Columns.{column-more, frame_room, only-refl, only_store, only_trans}
-use Rattle.maxtree_attribute.specs.Attributes.{AreasCopied, Line, Marked, OnLine}
+use Rattle.work_columns.proofs.Columns.{column-more, frame_room, only_store, only_trans}
+use Rattle.maxtree_attribute.specs.Attributes.{AreasCopied, Line, Marked}
 
 -- ---- the other columns stand
 
@@ -18,9 +15,6 @@ owns_stand : {n : ℕ} {w w' : List ℕ} → Only ATTRIBUTE n w w' → (p : ℕ)
 owns_stand a p = ap (λ (c : ℕ → ℕ). c p) (a.off OWN (omega arith) (λ x. omega arith))
 
 -- ---- areas copied
-
-pub copied_first : (n : ℕ) (w : List ℕ) → AreasCopied n 0 w w
-copied_first n w = record { only = only-refl ATTRIBUTE n w; areas = λ i l. absurd (omega arith) }
 
 pub copied_more : {n i v : ℕ} {w w' w'' : List ℕ} → AreasCopied n i w w' → i < n → v ≡ col AREA n w' i → Stored w' w'' n ATTRIBUTE i v
     → AreasCopied n (i + 1) w w''
@@ -30,19 +24,6 @@ copied_more {n} {i} {v} {w} a l e s = record {
 }
 
 -- ---- marks
-
-pub marked-none : {n : ℕ} {Passes : ℕ → Type 0} (w : List ℕ) → ((p : ℕ) → Passes p → ⊥) → Marked n Passes w w
-marked-none {n} w none = record { only = only-refl ATTRIBUTE n w; marks = λ p l x. absurd (none p x); others = λ j l. inl refl }
-
-pub marked-store : {n p : ℕ} {w w' : List ℕ} → Stored w w' n ATTRIBUTE (col OWN n w p) n → p < n → Marked n (λ q. q ≡ p) w w'
-marked-store {n} {p} {w} {w'} s l = record {
-  only = only_store s;
-  marks = λ q m x. ap (λ (r : ℕ). col ATTRIBUTE n w' (col OWN n w r)) x ∙ s.put.here;
-  others = λ j m. elim (choice (eqb j (col OWN n w p))) [
-    | inl t ↦ let x : j ≡ col OWN n w p = eqb→eq j (col OWN n w p) t in inr (ap (col ATTRIBUTE n w') x ∙ s.put.here, (p, l, refl, sym x))
-    | inr t ↦ inl (s.put.other j m (λ x. t (rw x (eqb_refl (col OWN n w p)))))
-  ];
-}
 
 pub marked-same : {n : ℕ} {A B : ℕ → Type 0} {w w' : List ℕ} → Marked n A w w'
     → ((p : ℕ) → p < n → A p → B p) → ((p : ℕ) → p < n → B p → A p) → Marked n B w w'
@@ -89,20 +70,3 @@ line_kept l a = record {
   owns = λ p h. omega (arith, owns_stand a p, l.owns p h);
   inside = l.inside;
 }
-
-pub line_first : {n : ℕ} (first step : ℕ) (w : List ℕ) → Marked n (OnLine first step 0) w w
-line_first first step w = marked-none w (λ p x. omega (arith, x.1))
-
-pub line-more : {n first step times i v : ℕ} {w w' w'' : List ℕ} → Line n w first step times → Marked n (OnLine first step i) w w' → i < times
-    → v ≡ col OWN n w' (first + i * step) → Stored w' w'' n ATTRIBUTE v n → Marked n (OnLine first step (i + 1)) w w''
-line-more {n} {first} {step} {times} {i} {v} {w} {w'} {w''} line a l e s =
-    let here : Marked n (λ q. q ≡ first + i * step) w' w'' = marked-store (rw e at s) (line.inside i l) in
-    marked-same (marked_both line.owns a here)
-    (λ p m x. elim x [ inl y ↦ (y.0, omega (arith, y.1), y.2) | inr y ↦ (i, omega arith, y) ])
-    (λ p m x. elim (choice (eqb x.0 i)) [
-      | inl t ↦ inr (x.2 ∙ ap (λ (k : ℕ). first + k * step) (eqb→eq x.0 i t))
-      | inr t ↦ inl (x.0, below x.0 x.1 (λ y. t (rw y (eqb_refl i))), x.2)
-    ])
-  where
-    below : (k : ℕ) → k < i + 1 → (k ≡ i → ⊥) → k < i
-    below k b y = elim (dec_lt k i) [ yes z ↦ z | no z ↦ absurd (y (omega arith)) ]

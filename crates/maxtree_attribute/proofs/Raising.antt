@@ -1,5 +1,5 @@
 -- From marks to attributes: the nodes hand their marks to their parents, and at the end each has its attribute.
-use mathlib.Core.Path.{◌≡◌, refl, sym, ap, ◌∙◌}
+use mathlib.Core.Path.{◌≡◌, sym, ap, ◌∙◌}
 use mathlib.Core.Logic.{inl, inr}
 use mathlib.Core.Bool.{Bool}
 use mathlib.Core.List.{List}
@@ -17,30 +17,12 @@ use Rattle.theory_opening.proofs.TrimEdge.{reaches-only, reaches-yes}
 use Rattle.theory_tree.specs.Tree.{Ancestor, above, self}
 use Rattle.theory_tree.proofs.NodeSets.{nodes_chain, parent_holds}
 use Rattle.theory_tree.proofs.Nodes.{over_holds, own_over, parent_below}
-use Rattle.work_columns.specs.Columns.{Only, Stored, col}
+use Rattle.work_columns.specs.Columns.{col}
 use Rattle.work_columns.specs.Layout.{AREA, ATTRIBUTE, OWN, PARENT, greys_in, touch_in}
 use Rattle.work_columns.specs.declared.Shape.{Shape}
-use Rattle.work_columns.proofs.Columns.{only-refl, only_store, only_trans}
-use Rattle.maxtree_columns.specs.Tree.{Attributed, Tree, TreeStands, nodes_in}
+use Rattle.maxtree_columns.specs.Tree.{Attributed, Tree, nodes_in}
 use Rattle.maxtree_columns.proofs.Tree.{area-part, few_nodes, own_inside, own_node, parent_earlier, tree_grid, tree_marked, tree_nodes, tree_plate}
-use Rattle.maxtree_attribute.specs.Attributes.{AreasCopied, AttributesSet, Handed, Marked, Raised}
-
--- ---- one node hands its mark on
-
-module _ {n i : ℕ} {w : List ℕ} where
-  pub handed_none : col ATTRIBUTE n w i < n → Handed n i w w
-  handed_none l = record { only = only-refl ATTRIBUTE n w; marks = λ m. absurd (omega arith); others = λ j h. inl refl }
-
-  pub handed_store : {w' : List ℕ} {v : ℕ} → n ≤ col ATTRIBUTE n w i → v ≡ col PARENT n w i
-      → Stored w w' n ATTRIBUTE v n → Handed n i w w'
-  handed_store {w'} {v} m e s = record {
-    only = only_store s;
-    marks = λ x. ap (col ATTRIBUTE n w') (sym e) ∙ s.put.here;
-    others = λ j h. elim (choice (eqb j v)) [
-      | inl t ↦ let x : j ≡ v = eqb→eq j v t in inr (m, x ∙ e, ap (col ATTRIBUTE n w') x ∙ s.put.here)
-      | inr t ↦ inl (s.put.other j h (λ x. t (rw x (eqb_refl v))))
-    ];
-  }
+use Rattle.maxtree_attribute.specs.Attributes.{AreasCopied, Handed, Marked, Raised}
 
 -- the trim edge, and the pixels of node j
 abbrev edge : Shape → ℕ → Bool
@@ -208,9 +190,3 @@ module _ {g : Shape} {f w : List ℕ} {count : ℕ} (r : Raised g f w count 1) w
 
 pub raised_here : {g : Shape} {f w : List ℕ} {count from : ℕ} → Raised g f w count from → Raised g (greys_in g.pixels w) w count from
 raised_here r = rw (tree_plate r.tree) r
-
-pub attributes_set : {g : Shape} {w w₁ w₂ w₃ : List ℕ} {count : ℕ} → TreeStands g w count → Only ATTRIBUTE g.pixels w w₁
-    → Only ATTRIBUTE g.pixels w₁ w₂ → AttributesSet g w₂ w₃ count → AttributesSet g w w₃ count
-attributes_set t a b c =
-    let ab = only_trans a b in
-    record { only = only_trans ab c.only; attributed = rw (tree_plate (tree_marked t ab)) at c.attributed }

@@ -8,18 +8,18 @@ ghost use Rattle.work_columns.specs.Layout.{PARENT, greys_in};
 ghost use Rattle.maxtree_columns.specs.Tree.{TreeStands};
 ghost use Rattle.maxtree_attribute.specs.Attributes.{AreasCopied, AttributesSet, Handed, Line, Marked, OnLine, Raised};
 
-use work_columns::{AREA, ATTRIBUTE, OWN, PARENT, Shape};
+use maxtree_columns::TreeShape;
+use work_columns::{AREA, ATTRIBUTE, OWN, PARENT};
 
 // Gives each node its area for its attribute.
-fn copy_areas(w: &mut [u32], g: Shape, count: usize)
-    requires { TreeStands g w.old count }
-    ensures { AreasCopied g.pixels count w.old w.new }
+fn copy_areas(w: &mut [u32], t: TreeShape)
+    requires { TreeStands t.shape w.old t.count }
+    ensures { AreasCopied t.shape.pixels t.count w.old w.new }
 {
-    let mut i: usize = 0;
-    while i < count {
-        let area = work_columns::get(w, g.pixels, AREA, i);
-        work_columns::put(w, g.pixels, ATTRIBUTE, i, area);
-        i += 1;
+    let n = t.shape.pixels;
+    for i in 0..t.count {
+        let area = work_columns::get(w, n, AREA, i);
+        work_columns::put(w, n, ATTRIBUTE, i, area);
     }
 }
 
@@ -28,19 +28,18 @@ fn mark_line(w: &mut [u32], n: usize, first: usize, step: usize, times: usize)
     requires { Line n w.old first step times }
     ensures { Marked n (OnLine first step times) w.old w.new }
 {
-    let mut i: usize = 0;
-    while i < times {
+    for i in 0..times {
         let node = work_columns::get(w, n, OWN, first + i * step);
         work_columns::put(w, n, ATTRIBUTE, node, n);
-        i += 1;
     }
 }
 
 // The same for the pixels of the trim edge: first and last row, first and last column.
-fn mark_edge(w: &mut [u32], g: Shape, count: usize)
-    requires { TreeStands g w.old count }
-    ensures { Marked g.pixels (λ p. T (on_trim_edge g.width g.height p)) w.old w.new }
+fn mark_edge(w: &mut [u32], t: TreeShape)
+    requires { TreeStands t.shape w.old t.count }
+    ensures { Marked t.shape.pixels (λ p. T (on_trim_edge t.shape.width t.shape.height p)) w.old w.new }
 {
+    let g = t.shape;
     mark_line(w, g.pixels, 0, 1, g.width);
     mark_line(w, g.pixels, g.pixels - g.width, 1, g.width);
     mark_line(w, g.pixels, 0, g.width, g.height);
@@ -60,23 +59,21 @@ fn hand_mark(w: &mut [u32], n: usize, i: usize)
 }
 
 // From the last node to the first after the root.
-fn hand_marks(w: &mut [u32], g: Shape, count: usize)
-    requires { Raised g (greys_in g.pixels w.old) w.old count count }
-    ensures { AttributesSet g w.old w.new count }
+fn hand_marks(w: &mut [u32], t: TreeShape)
+    requires { Raised t.shape (greys_in t.shape.pixels w.old) w.old t.count t.count }
+    ensures { AttributesSet t.shape w.old w.new t.count }
 {
-    let mut i: usize = count;
-    while 1 < i {
-        i -= 1;
-        hand_mark(w, g.pixels, i);
+    for i in (1..t.count).rev() {
+        hand_mark(w, t.shape.pixels, i);
     }
 }
 
 // Gives each node its attribute.
-pub fn set_attributes(w: &mut [u32], g: Shape, count: usize)
-    requires { TreeStands g w.old count }
-    ensures { AttributesSet g w.old w.new count }
+pub fn set_attributes(w: &mut [u32], t: TreeShape)
+    requires { TreeStands t.shape w.old t.count }
+    ensures { AttributesSet t.shape w.old w.new t.count }
 {
-    copy_areas(w, g, count);
-    mark_edge(w, g, count);
-    hand_marks(w, g, count);
+    copy_areas(w, t);
+    mark_edge(w, t);
+    hand_marks(w, t);
 }

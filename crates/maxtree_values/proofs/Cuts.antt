@@ -1,6 +1,6 @@
 -- The climb to a node that qualifies, and the loop that gives each node its value in the cut.
 use mathlib.Core.Path.{◌≡◌, sym, ap, ◌∙◌}
-use mathlib.Core.Bool.{Bool, true, false}
+use mathlib.Core.Bool.{Bool, false}
 use mathlib.Core.List.{List}
 use Prim.Native.Nat.{ℕ, zero, suc, ◌+◌, ◌≤◌, ◌<◌}
 use native.Mathlib.Omega.{arith}
@@ -10,14 +10,13 @@ use Rattle.meaning.specs.Nodes.{holds}
 use Rattle.meaning.specs.Opening.{Criterion, at_least, attribute, opened, opened_at}
 use Rattle.meaning.specs.Plate.{grey}
 use Rattle.meaning.specs.Sets.{nth, table}
-use Rattle.theory_lists.proofs.Tests.{passes}
 use Rattle.theory_opening.proofs.Opening.{opened_below}
 use Rattle.theory_tree.proofs.Cuts.{cut_kept, cut_own, cut_parent, cut-root}
 use Rattle.theorems.proofs.Plates.{at_limit, cut-is-opened}
 use Rattle.work_columns.specs.Columns.{Only, Stored, col}
-use Rattle.work_columns.specs.Layout.{ATTRIBUTE, LEVEL, PARENT, VALUE, greys_in, touch_in}
+use Rattle.work_columns.specs.Layout.{ATTRIBUTE, PARENT, VALUE, greys_in, touch_in}
 use Rattle.work_columns.specs.declared.Shape.{Shape}
-use Rattle.work_columns.proofs.Columns.{column-more, frame_trans, only-refl, only_store, only_trans}
+use Rattle.work_columns.proofs.Columns.{column-more, frame_trans, only_store, only_trans}
 use Rattle.maxtree_columns.specs.Tree.{Attributed, Tree, nodes_in}
 use Rattle.maxtree_columns.proofs.Tree.{attributed_here, attributed_kept, few_nodes, parent_earlier, tree_grid, tree_nodes, tree_plate}
 use Rattle.maxtree_attribute.specs.Attributes.{AttributesSet}
@@ -26,29 +25,15 @@ use Rattle.maxtree_values.proofs.Values.{values_are}
 
 -- ---- one climb
 
-module _ {limit n : ℕ} {w : List ℕ} {settled i r : ℕ} where
-  -- from a node whose value is stored
-  pub climbed_stored : i < settled → r ≡ col VALUE n w i → r < 4294967296 → Climbed limit n w settled i r
-  climbed_stored l e b = record { fits = b; value-is = λ v c. e ∙ sym (c.stored i l) }
-
-  -- from a node that qualifies
-  pub climbed_here : leb limit (col ATTRIBUTE n w i) ≡ true → r ≡ col LEVEL n w i → r < 4294967296 → Climbed limit n w settled i r
-  climbed_here q e b = record { fits = b; value-is = λ v c. e ∙ sym (c.kept i (omega arith) (leb→le limit (col ATTRIBUTE n w i) (passes q))) }
-
--- from another: that of its parent, which has a smaller number
+-- from a node that does not qualify: the value is that of its parent, which has a smaller number
 module _ {limit n : ℕ} {w : List ℕ} {i : ℕ} (can : Climbable limit n w (suc i)) (x : leb limit (col ATTRIBUTE n w i) ≡ false) {p : ℕ}
     (e : p ≡ col PARENT n w i)
   where
     s : col ATTRIBUTE n w i < limit
     s = nleb→lt limit (col ATTRIBUTE n w i) (rw x tt)
 
-    pub parent_first : p < i
+    parent_first : p < i
     parent_first = omega (arith, can.earlier i (omega arith) s)
-
-    pub climbable_parent : Climbable limit n w (suc p)
-    climbable_parent =
-        let l = parent_first in
-        record { room = can.room; few = omega (arith, can.few); earlier = λ j h. can.earlier j (omega arith) }
 
     pub climbed_parent : {settled r : ℕ} → Climbed limit n w settled p r → Climbed limit n w settled i r
     climbed_parent a = record {
@@ -122,10 +107,6 @@ pub record Cutting (g : Shape) (f : List ℕ) (count limit : ℕ) (w w' : List �
   pub values : (j : ℕ) → j < i → col VALUE g.pixels w' j ≡ value attributed limit fits j
 
 module _ {g : Shape} {f w : List ℕ} {count limit : ℕ} where
-  pub cutting_first : Attributed g f w count → limit ≤ g.pixels → Cutting g f count limit w w 0
-  cutting_first a m =
-      record { bound = omega arith; only = only-refl VALUE g.pixels w; attributed = a; fits = m; values = λ j l. absurd (omega arith) }
-
   module _ {w' : List ℕ} {i : ℕ} (a : Cutting g f count limit w w' i) where
     pub cutting_climbable : i < count → Climbable limit g.pixels w' (suc i)
     cutting_climbable l = cut_climbable a.attributed limit a.fits i l

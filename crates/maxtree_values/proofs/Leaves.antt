@@ -1,5 +1,5 @@
 -- The loops that mark the nodes without a child, which are the regional maxima.
-use mathlib.Core.Path.{◌≡◌, refl, sym, ap, ◌∙◌}
+use mathlib.Core.Path.{◌≡◌, sym, ap, ◌∙◌}
 use mathlib.Core.Logic.{inl, inr}
 use mathlib.Core.Bool.{Bool, true, false, not}
 use mathlib.Core.List.{List}
@@ -14,20 +14,11 @@ use Rattle.theory_lists.proofs.Tests.{choice}
 use Rattle.work_columns.specs.Columns.{Only, Stored, col}
 use Rattle.work_columns.specs.Layout.{PARENT, VALUE, touch_in}
 use Rattle.work_columns.specs.declared.Shape.{Shape}
-use Rattle.work_columns.proofs.Columns.{column-more, only-refl, only_store, only_trans}
+use Rattle.work_columns.proofs.Columns.{only-refl, only_store, only_trans}
 use Rattle.maxtree_columns.specs.Tree.{Tree}
 use Rattle.maxtree_columns.proofs.Leaves.{child_here, child_none, child_other, has_child, leaf_is-maximum}
 use Rattle.maxtree_values.specs.Values.{Ones, ValuesAre}
 use Rattle.maxtree_values.proofs.Values.{values_are}
-
-pub ones-first : {n : ℕ} {w : List ℕ} → Ones n 0 w w
-ones-first {n} {w} = record { only = only-refl VALUE n w; values = λ i l. absurd (omega arith) }
-
-pub ones-more : {n count i : ℕ} {w w' w'' : List ℕ} → count ≤ n → Ones n i w w' → i < count → Stored w' w'' n VALUE i 1 → Ones n (i + 1) w w''
-ones-more few a l s = record {
-  only = only_trans a.only (only_store s);
-  values = column-more (λ (j : ℕ). 1) s (omega arith) refl a.values;
-}
 
 -- the values of all nodes, with the nodes below i as children
 pub record Marking (n count : ℕ) (w w' : List ℕ) (i : ℕ) : Type 0 where

@@ -12,7 +12,8 @@ ghost use Rattle.maxtree_columns.specs.Tree.{TreeStands};
 ghost use Rattle.plate_greys.specs.Sides.{side_grey, side_plate};
 ghost use Rattle.maxtree_values.specs.Values.{Climbable, Climbed, ValuesAre, Ones, Writable, value_at, values_in, Delivered, Copyable};
 
-use work_columns::{ATTRIBUTE, LEVEL, OWN, PARENT, Shape, VALUE};
+use maxtree_columns::TreeShape;
+use work_columns::{ATTRIBUTE, LEVEL, OWN, PARENT, VALUE};
 
 // Is the attribute of node i at least the limit?
 fn qualifies(w: &[u32], n: usize, limit: usize, i: usize) -> bool
@@ -57,45 +58,39 @@ fn cut_value(w: &[u32], n: usize, limit: usize, i: usize) -> usize
 }
 
 // Gives each node its attribute, and then its value in the cut of the plate at the limit.
-pub fn cut_values(w: &mut [u32], g: Shape, count: usize, limit: usize)
-    requires tree_stands { TreeStands g w.old count }
-    requires limit_le_pixels { limit ≤ g.pixels }
-    ensures { ValuesAre g.pixels g.greatest (cut g.connectivity g.width g.height limit (greys_in g.pixels w.old))
-        w.old w.new }
+pub fn cut_values(w: &mut [u32], t: TreeShape, limit: usize)
+    requires tree_stands { TreeStands t.shape w.old t.count }
+    requires limit_le_pixels { limit ≤ t.shape.pixels }
+    ensures { ValuesAre t.shape.pixels t.shape.greatest
+        (cut t.shape.connectivity t.shape.width t.shape.height limit (greys_in t.shape.pixels w.old)) w.old w.new }
 {
-    maxtree_attribute::set_attributes(w, g, count);
-    let mut i: usize = 0;
-    while i < count {
-        let v = cut_value(w, g.pixels, limit, i);
-        work_columns::put(w, g.pixels, VALUE, i, v);
-        i += 1;
+    maxtree_attribute::set_attributes(w, t);
+    let n = t.shape.pixels;
+    for i in 0..t.count {
+        let v = cut_value(w, n, limit, i);
+        work_columns::put(w, n, VALUE, i, v);
     }
 }
 
 // Gives each node the value 1.
-fn set_ones(w: &mut [u32], g: Shape, count: usize)
-    requires { TreeStands g w.old count }
-    ensures { Ones g.pixels count w.old w.new }
+fn set_ones(w: &mut [u32], t: TreeShape)
+    requires { TreeStands t.shape w.old t.count }
+    ensures { Ones t.shape.pixels t.count w.old w.new }
 {
-    let mut i: usize = 0;
-    while i < count {
-        work_columns::put(w, g.pixels, VALUE, i, 1);
-        i += 1;
-    }
+    work_columns::fill(w, t.shape.pixels, VALUE, t.count, 1);
 }
 
 // Gives each node that is a parent the value 0, and the others 1: the marks of the plate's regional maxima.
-pub fn mark_leaves(w: &mut [u32], g: Shape, count: usize)
-    requires { TreeStands g w.old count }
-    ensures { ValuesAre g.pixels g.greatest (marks g.connectivity g.width (greys_in g.pixels w.old))
-        w.old w.new }
+pub fn mark_leaves(w: &mut [u32], t: TreeShape)
+    requires { TreeStands t.shape w.old t.count }
+    ensures { ValuesAre t.shape.pixels t.shape.greatest
+        (marks t.shape.connectivity t.shape.width (greys_in t.shape.pixels w.old)) w.old w.new }
 {
-    set_ones(w, g, count);
-    let mut i: usize = 1;
-    while i < count {
-        let parent = work_columns::get(w, g.pixels, PARENT, i);
-        work_columns::put(w, g.pixels, VALUE, parent, 0);
-        i += 1;
+    set_ones(w, t);
+    let n = t.shape.pixels;
+    for i in 1..t.count {
+        let parent = work_columns::get(w, n, PARENT, i);
+        work_columns::put(w, n, VALUE, parent, 0);
     }
 }
 
@@ -116,10 +111,8 @@ pub fn write_values(w: &[u32], n: usize, negated: bool, greatest: usize, out: &m
     requires n_in_bounds { n ≤ length out.old }
     ensures { out.new ≡ over (side_plate negated greatest (values_in n w.now)) out.old }
 {
-    let mut p: usize = 0;
-    while p < n {
-        out[p] = out_value(w, n, negated, greatest, p);
-        p += 1;
+    for (p, place) in out[..n].iter_mut().enumerate() {
+        *place = out_value(w, n, negated, greatest, p);
     }
 }
 
@@ -138,9 +131,7 @@ pub fn write_column(w: &[u32], n: usize, c: usize, count: usize, out: &mut [u32]
     requires { Copyable n w.now c count out.old }
     ensures { out.new ≡ over (table count (col c n w.now)) out.old }
 {
-    let mut i: usize = 0;
-    while i < count {
-        out[i] = work_columns::get(w, n, c, i) as u32;
-        i += 1;
+    for (i, place) in out[..count].iter_mut().enumerate() {
+        *place = work_columns::get(w, n, c, i) as u32;
     }
 }

@@ -2,16 +2,16 @@
 use mathlib.Core.Path.{◌≡◌, refl, sym, ◌∙◌}
 use mathlib.Core.Bool.{Bool, true, false}
 use mathlib.Core.List.{List}
-use Prim.Native.Nat.{ℕ, ◌+◌, ◌-◌, ◌≤◌, ◌<◌}
+use Prim.Native.Nat.{ℕ, ◌-◌, ◌≤◌, ◌<◌}
 use native.Mathlib.Omega.{arith}
 use lib.ListN.{length, length-map}
 use lib.Seq.{ext_get_or}
 use Rattle.meaning.specs.Plate.{grey, negative}
 use Rattle.meaning.specs.Sets.{table}
 use Rattle.theory_lists.proofs.Lists.{get_d_map, get_d_table, length-table}
-use Rattle.work_columns.specs.Columns.{Frame, Stored, col}
+use Rattle.work_columns.specs.Columns.{Frame, col}
 use Rattle.work_columns.specs.Layout.{GREY}
-use Rattle.work_columns.proofs.Columns.{column-more, column_plate, frame-refl, frame_trans}
+use Rattle.work_columns.proofs.Columns.{column_plate}
 use Rattle.plate_greys.specs.Loading.{Loaded}
 use Rattle.plate_greys.specs.Sides.{side_plate, side_grey}
 
@@ -49,17 +49,6 @@ pub record Loading (negated : Bool) (M : ℕ) (f w w' : List ℕ) (i : ℕ) : Ty
   pub done : (j : ℕ) → j < i → col GREY (length f) w' j ≡ side_grey negated M (grey f j)
 
 module _ {negated : Bool} {M : ℕ} {f w : List ℕ} where
-  pub loading_first : Loading negated M f w w 0
-  loading_first = record { bound = omega arith; frame = frame-refl (length f) w; done = λ j l. absurd (omega arith) }
-
-  pub loading_more : {w' w'' : List ℕ} {i v : ℕ} → Loading negated M f w w' i → i < length f → v ≡ side_grey negated M (grey f i)
-      → Stored w' w'' (length f) GREY i v → Loading negated M f w w'' (i + 1)
-  loading_more {i = i} a l e s = record {
-    bound = omega arith;
-    frame = frame_trans a.frame s.frame;
-    done = column-more (λ (j : ℕ). side_grey negated M (grey f j)) s l e a.done;
-  }
-
   pub loading_done : {w' : List ℕ} {i : ℕ} → Loading negated M f w w' i → length f ≤ i → ((p : ℕ) → p < length f → grey f p ≤ M) → Loaded negated M f w w'
   loading_done {w'} {i} a l low = record {
     frame = a.frame;

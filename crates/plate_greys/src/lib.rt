@@ -21,11 +21,8 @@ pub fn load(image: &[u16], negated: bool, greatest: usize, work: &mut [u32])
     ensures { Loaded negated greatest image.now work.old work.new }
 {
     let n = image.len();
-    let mut p: usize = 0;
-    while p < n {
-        let grey = image[p];
+    for (p, &grey) in image.iter().enumerate() {
         let g = side_grey(negated, greatest, grey as usize);
         work_columns::put(work, n, GREY, p, g);
-        p += 1;
     }
 }

@@ -1,2 +1,3 @@
 -- Laws of columns.
 pub mod Columns
+pub mod Filled

@@ -34,6 +34,12 @@ pub record Stored (w w' : List ℕ) (n c i v : ℕ) : Type 0 where
   pub put : Put n (col c n w) (col c n w') i v
   pub off : (d : ℕ) → d < 8 → (d ≡ c → ⊥) → col d n w' ≡ col d n w
 
+-- w' is w with v at the first `count` entries of column c
+pub record Filled (w w' : List ℕ) (n c count v : ℕ) : Type 0 where
+  pub only : Only c n w w'
+  pub here : (i : ℕ) → i < count → col c n w' i ≡ v
+  pub rest : (i : ℕ) → count ≤ i → i < n → col c n w' i ≡ col c n w i
+
 -- ---- two columns side by side
 
 -- the entry k, 0 or 1, of pair i: the n pairs stand where the columns 5 and 6 do

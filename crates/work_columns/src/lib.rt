@@ -1,8 +1,8 @@
 // The work space: eight columns of n numbers in one lent slice. These functions serve the crates above; their callers keep within the columns.
 #![tactic(auto)]
 
-ghost use Rattle.std.specs.Prelude.{◌≡◌, ◌++◌, ◌+◌, ◌*◌, ◌<◌, drop, replicate};
-ghost use Rattle.work_columns.specs.Columns.{cell, col, CellStored, Room, Stored};
+ghost use Rattle.std.specs.Prelude.{◌≡◌, ◌++◌, ◌+◌, ◌*◌, ◌≤◌, ◌<◌, drop, replicate};
+ghost use Rattle.work_columns.specs.Columns.{cell, col, CellStored, Filled, Room, Stored};
 ghost use Rattle.work_columns.specs.Layout.{shape_of};
 
 // The shape of a plate: its pixels, its width and height, its greatest grey, its connectivity.
@@ -94,6 +94,16 @@ pub fn put(w: &mut [u32], n: usize, c: usize, i: usize, v: usize)
     ensures { Stored w.old w.new n c i v }
 {
     w[c * n + i] = v as u32;
+}
+
+// Sets the first `count` entries of column c to v.
+pub fn fill(w: &mut [u32], n: usize, c: usize, count: usize, v: usize)
+    requires room { Room w.old n }
+    requires c_bound { (c < 8) × ((count ≤ n) × (v < 4294967296)) }
+    ensures { Filled w.old w.new n c count v }
+{
+    let start = c * n;
+    w[start..start + count].fill(v as u32);
 }
 
 // The entry i of column c, 5 or 6, where the two stand side by side: entry i of 6, then entry i of 5.

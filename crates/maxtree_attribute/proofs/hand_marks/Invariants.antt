@@ -6,7 +6,8 @@ use Rattle.maxtree_attribute.specs.Attributes.{Raised}
 use Rattle.maxtree_attribute.proofs.hand_marks.Given as goal
 
 abbrev pub invariant-loop-i : goal.invariant-loop-i
-invariant-loop-i l = (1 ≤ l.i) × (l.i ≤ l.count) × Only ATTRIBUTE l.g.pixels l.initial.w l.w × Raised l.g (greys_in l.g.pixels l.initial.w) l.w l.count l.i
-
-abbrev pub decreases-loop-i : goal.decreases-loop-i
-decreases-loop-i l = l.i
+invariant-loop-i l = record {
+  begun : 1 ≤ l.i;
+  only : Only ATTRIBUTE l.t.shape.pixels l.initial.w l.w;
+  raised : Raised l.t.shape (greys_in l.t.shape.pixels l.initial.w) l.w l.t.count l.i;
+}
