@@ -25,7 +25,7 @@ module _ {k w h M : ℕ} {f work w₁ : List ℕ} (out : Columns) {count : ℕ} 
   pub listed_done : {w₂ : List ℕ} {out' : Columns} → ColumnsWritten (length f) count w₁ out out'
       → w₂ ≡ replicate (8 * length f) 0 ++ drop (8 * length f) w₁ → NodesListed k w h M f out out' work w₂ 0 count
   listed_done d c = record {
-    answer = list_done s refl c;
+    answer = list_done s c;
     levels = d.levels ∙ rw (listed p.tree LEVEL level_of p.tree.level_is);
     parents = d.parents ∙ rw (listed p.tree PARENT parent p.tree.parent_is);
     areas = d.areas ∙ rw (listed p.tree AREA area_of p.tree.area-is);

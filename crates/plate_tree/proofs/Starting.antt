@@ -88,13 +88,9 @@ module _ (plate : PlateHead) (f work : List ℕ) (places : ℕ) where
           tree_stands = λ _. p;
         }
 
--- what the list answers
-module _ {k w h M : ℕ} {f work w₁ : List ℕ} {places r count : ℕ} (s : Started k w h M f places work w₁ r count) where
-  pub list_refused : (r ≡ 0 → ⊥) → ListAnswered k w h M f places work w₁ r count
-  list_refused x = record { number = s.number; counted = s.counted; space = s.stopped x; accepted = λ u. absurd (x u) }
-
-  -- with the work space cleared at the end
-  pub list_done : {w₂ : List ℕ} → r ≡ 0 → w₂ ≡ replicate (8 * length f) 0 ++ drop (8 * length f) w₁ → ListAnswered k w h M f places work w₂ r count
-  list_done z c =
-      let p = s.tree_stands z in
-      record { number = s.number; counted = s.counted; space = rw z (cleared_space p.plate p.frame c); accepted = λ _. p.plate }
+-- what a list that is not refused answers, with the work space cleared at the end
+pub list_done : {k w h M : ℕ} {f work w₁ w₂ : List ℕ} {places count : ℕ} → Started k w h M f places work w₁ 0 count
+    → w₂ ≡ replicate (8 * length f) 0 ++ drop (8 * length f) w₁ → ListAnswered k w h M f places work w₂ 0 count
+list_done s c =
+    let p = s.tree_stands refl in
+    record { number = s.number; counted = s.counted; space = cleared_space p.plate p.frame c; accepted = λ _. p.plate }
