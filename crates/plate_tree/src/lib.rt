@@ -2,28 +2,28 @@
 #![tactic(auto)]
 
 ghost use Rattle.std.specs.Prelude.{◌≡◌};
+ghost use Rattle.refusals.specs.Numbers.{refusal_of};
 ghost use Rattle.plate_tree.specs.PlateTree.{PlateReady, PlateTree};
-ghost use Rattle.plate_tree.specs.Listing.{Started};
+ghost use Rattle.plate_tree.specs.Listing.{Answers, Started, count_of};
 
+use maxtree_columns::TreeShape;
+use plate_refusals::PlateHead;
+use refusals::Refusal;
 use work_columns::Shape;
 
-// Builds the component tree of a plate, or of its negative, in the work space. Returns the number of nodes.
-pub fn plate_tree(image: &[u16], negated: bool, g: Shape, work: &mut [u32]) -> usize
+// Builds the component tree of a plate, or of its negative, in the work space.
+#[tactic(auto, using(crate::proofs::Building::ready_loadable, crate::proofs::Building::ready_buildable))]
+pub fn plate_tree(image: &[u16], negated: bool, g: Shape, work: &mut [u32]) -> TreeShape
     requires { PlateReady g image.now work.old }
-    ensures { PlateTree negated g image.now work.old work.new result }
+    ensures shape { result.shape ≡ g }
+    ensures tree { PlateTree negated g image.now work.old work.new result.count }
 {
     plate_greys::load(image, negated, g.greatest, work);
-    maxtree::build_tree(
-        work,
-        g.pixels,
-        g.width,
-        g.height,
-        g.greatest,
-        g.connectivity,
-    )
+    let count = maxtree::build_tree(work, g);
+    TreeShape { shape: g, count }
 }
 
-// What the node list answers: its refusal, or 0 and the number of nodes.
+// What the node list answers to C: its refusal, or 0 and the number of nodes.
 #[repr(C)]
 #[derive(Clone, Copy)]
 pub struct NodeList {
@@ -32,49 +32,33 @@ pub struct NodeList {
 }
 
 // A refusal gives its number, and zeros elsewhere.
-fn refused(refusal: u32) -> NodeList
-    ensures { (result.refusal ≡ refusal) × (result.count ≡ 0) }
-{
-    NodeList {
-        refusal: refusal,
-        count: 0,
+impl From<Result<u32, Refusal>> for NodeList {
+    ghost from_gives = { Answers };
+
+    fn from(answer: Result<u32, Refusal>) -> NodeList {
+        NodeList {
+            refusal: refusals::number(answer),
+            count: answer.unwrap_or(0),
+        }
     }
 }
 
-// Starts a node list with so many places, of a plate: its component tree stands in the work space, or the list is refused.
+// Starts a node list with so many places, of a plate: its component tree stands in the work space, or the list is refused. The number of nodes.
 pub fn start_list(
     image: &[u16],
-    width: u32,
-    height: u32,
-    greatest: u32,
-    connectivity: u32,
+    plate: PlateHead,
     places: usize,
     work: &mut [u32],
-) -> NodeList
-    ensures { Started connectivity width height greatest image.now places
-        work.old work.new result.refusal result.count }
+) -> Result<u32, Refusal>
+    ensures { Started plate.connectivity plate.width plate.height plate.greatest image.now places
+        work.old work.new (refusal_of result) (count_of result) }
 {
+    plate_refusals::check_tree(image, plate, work.len())?;
     let n = image.len();
-    let refusal = plate_refusals::tree_refusal(
-        connectivity,
-        width,
-        height,
-        greatest,
-        image,
-        work.len(),
-    );
-    if refusal != 0 {
-        return refused(refusal);
-    }
-    let g = work_columns::shape_of(n, width, height, greatest, connectivity);
-    let count = plate_tree(image, false, g, work);
-    let short = plate_refusals::out_refusal(count, places);
-    if short != 0 {
+    let count = plate_tree(image, false, plate.shape(n), work).count;
+    if let Err(refusal) = plate_refusals::check_out(count, places) {
         work_columns::clear(work, n);
-        return refused(short);
+        return Err(refusal);
     }
-    NodeList {
-        refusal: 0,
-        count: count as u32,
-    }
+    Ok(count as u32)
 }
