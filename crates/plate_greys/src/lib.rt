@@ -8,6 +8,7 @@ ghost use Rattle.plate_greys.specs.Loading.{Loadable, Loaded};
 use work_columns::GREY;
 
 // A grey, or its negative.
+// No struct of `negated` and `greatest`: a caller has the greatest grey in the plate's shape, and would hold it twice.
 pub fn side_grey(negated: bool, greatest: usize, grey: usize) -> usize
     requires { grey ≤ greatest }
     ensures { (result ≡ side_grey negated greatest grey) × (result ≤ greatest) }
