@@ -1,7 +1,9 @@
 -- What reading a field at a position of a record finds, and what comparing one finds: SPECIFICATION 6 and 9.
-use Rattle.std.specs.Prelude.{Bool, true, false, not, ◌&&◌, List, [], ◌∷◌, ℕ, suc, ◌+◌, ◌-◌, ◌*◌, ltb, leb, eqb, length, drop, Option, None, Some, Result, Ok, Err}
+use Rattle.std.specs.Prelude.{◌≡◌, Bool, true, false, not, ◌&&◌, List, [], ◌∷◌, ℕ, suc, ◌+◌, ◌-◌, ◌*◌, ltb, leb, eqb, length, drop, Option, None, Some, Result, Ok, Err}
 use Rattle.meaning.specs.Sets.{pick}
 use Rattle.meaning.specs.Record.{varint}
+use Rattle.refusals.specs.Numbers as numbers
+use Rattle.refusals.specs.declared.Refusal.{Refusal}
 use Rattle.record_varint.specs.declared.Fault.{Fault}
 use Rattle.record_varint.specs.declared.Fault.TheVariants.{Unended, Malformed, OutOfRange}
 
@@ -58,6 +60,10 @@ abbrev pub number_of : Fault → ℕ
 number_of Unended = 20
 number_of Malformed = 21
 number_of OutOfRange = 22
+
+-- the refusal of an operation where a field has the fault: its number is that of the fault
+abbrev pub Refuses : Fault → Refusal → Type 0
+Refuses fault refusal = numbers.number_of refusal ≡ number_of fault
 
 -- what an answer of reading says
 abbrev pub reading : Result (ℕ × ℕ) Fault → Reading

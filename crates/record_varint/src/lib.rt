@@ -3,12 +3,13 @@
 
 ghost use Rattle.std.specs.Prelude.{◌≡◌, ◌++◌, ◌+◌, ◌≤◌, ◌<◌, length, take, drop, MatchOption};
 ghost use Rattle.meaning.specs.Record.{varint};
-ghost use Rattle.record_varint.specs.Field.{continued, value, field_at, same_at, number_of, reading, comparison};
+ghost use Rattle.record_varint.specs.Field.{continued, value, field_at, same_at, reading, comparison, Refuses};
 
+use refusals::Refusal;
 use std::error::Error;
 use std::fmt;
 
-// Why a field is refused. `number_of` gives the specification's number.
+// What is wrong with a field. `number_of` gives the specification's number.
 #[derive(Clone, Copy, Debug, PartialEq, Eq)]
 pub enum Fault {
     // The bytes end before one with its top bit clear.
@@ -17,19 +18,6 @@ pub enum Fault {
     Malformed,
     // The number is outside its range.
     OutOfRange,
-}
-
-impl Fault {
-    // The specification's number.
-    pub fn number(self) -> u32
-        ensures { result ≡ number_of self }
-    {
-        match self {
-            Fault::Unended => 20,
-            Fault::Malformed => 21,
-            Fault::OutOfRange => 22,
-        }
-    }
 }
 
 impl fmt::Display for Fault {
@@ -43,6 +31,18 @@ impl fmt::Display for Fault {
 }
 
 impl Error for Fault {}
+
+impl From<Fault> for Refusal {
+    ghost from_gives = { Refuses };
+
+    fn from(fault: Fault) -> Refusal {
+        match fault {
+            Fault::Unended => Refusal::FieldUnended,
+            Fault::Malformed => Refusal::FieldMalformed,
+            Fault::OutOfRange => Refusal::FieldRange,
+        }
+    }
+}
 
 // The position of the first byte from `at` on whose top bit is clear.
 fn find_end(s: &[u8], at: usize) -> Option<usize>
