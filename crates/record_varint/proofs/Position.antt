@@ -6,6 +6,7 @@ use mathlib.Core.Bool.{true}
 use mathlib.Core.List.{List, [], ◌∷◌}
 use Prim.Native.Nat.{ℕ, zero, suc, ◌+◌, ◌-◌, ◌*◌, ◌≤◌, ◌<◌}
 use native.Mathlib.Omega.{arith}
+use native.Mathlib.Numerals.{add-one}
 use native.Mathlib.Decide.{dec_lt}
 use lib.Dec.{ltb, leb}
 use lib.ListN.{length, get_or, drop, length-drop}
@@ -23,14 +24,17 @@ module _ (s : List ℕ) (i : ℕ) where
   pub continued_here : i < length s → get_or s i 0 < 128 → continued (drop i s) ≡ 0
   continued_here h b = rw (drop-cons s i 0, continued_low)
 
-  pub continued_next : i < length s → 128 ≤ get_or s i 0 → continued (drop i s) ≡ suc (continued (drop (suc i) s))
-  continued_next h b = rw (drop-cons s i 0, continued_high)
+  pub continued_next : i < length s → 128 ≤ get_or s i 0 → continued (drop i s) ≡ suc (continued (drop (i + 1) s))
+  continued_next h b = rw (add-one, drop-cons s i 0, continued_high)
 
   value_here : i < length s → get_or s i 0 < 128 → value (drop i s) ≡ get_or s i 0
   value_here h b = rw (drop-cons s i 0, value_low)
 
   value_next : i < length s → 128 ≤ get_or s i 0 → value (drop i s) ≡ (get_or s i 0 - 128) + 128 * value (drop (suc i) s)
   value_next h b = rw (drop-cons s i 0, value_high)
+
+-- what finding the end of a field needs
+pub ruleset end_steps = (continued_here, continued_next)
 
 -- ---- the bytes that continued have the top bit set, and the one after them has not
 continued_high_at : (l : List ℕ) (k : ℕ) → k < continued l → 128 ≤ get_or l k 0

@@ -45,6 +45,7 @@ impl From<Fault> for Refusal {
 }
 
 // The position of the first byte from `at` on whose top bit is clear.
+#[tactic(auto, using(crate::proofs::Position::end_steps))]
 fn find_end(s: &[u8], at: usize) -> Option<usize>
     ensures { MatchOption result (length s.now ≤ at + continued (drop at s.now))
         (λ end. (end ≡ at + continued (drop at s.now)) × (end < length s.now)) }
