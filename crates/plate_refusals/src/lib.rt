@@ -68,7 +68,7 @@ impl TryFrom<u32> for Side {
 pub fn connectivity_fits(connectivity: u32) -> bool
     ensures { result ≡ connectivity_fits connectivity }
 {
-    connectivity == 4 || connectivity == 6 || connectivity == 8
+    connectivity == 4 || (connectivity == 6 || connectivity == 8)
 }
 
 // Is an extent, a width or a height, within the grid?
@@ -82,7 +82,7 @@ fn extent_fits(extent: u32) -> bool
 pub fn grid_fits(width: u32, height: u32) -> bool
     ensures { result ≡ grid_fits width height }
 {
-    extent_fits(width) && extent_fits(height) && width * height <= MAX_PIXELS
+    extent_fits(width) && (extent_fits(height) && width * height <= MAX_PIXELS)
 }
 
 // Is the greatest grey from 1 to 65,535?
@@ -178,7 +178,14 @@ pub fn check_work(pixels: usize, work: usize) -> Result<(), Refusal>
 }
 
 // The conditions of an operation with a plate, a limit and an output of as many pixels.
-fn check_filter(image: &[u16], plate: PlateHead, limit: u32, out: usize, work: usize) -> Result<(), Refusal>
+#[tactic(auto, using(crate::proofs::Refusals::filter_plate, crate::proofs::Refusals::filter_output, crate::proofs::Refusals::filter_space))]
+fn check_filter(
+    image: &[u16],
+    plate: PlateHead,
+    limit: u32,
+    out: usize,
+    work: usize,
+) -> Result<(), Refusal>
     ensures { refusal_of result
         ≡ filter_refusal plate.connectivity plate.width plate.height plate.greatest limit image.now out work }
 {
@@ -189,9 +196,11 @@ fn check_filter(image: &[u16], plate: PlateHead, limit: u32, out: usize, work: u
 }
 
 // The conditions of cleaning; the side.
+#[tactic(auto, using(crate::proofs::Refusals::clean_side))]
 pub fn check_clean(
     side: u32,
-    image: &[u16], plate: PlateHead,
+    image: &[u16],
+    plate: PlateHead,
     limit: u32,
     out: usize,
     work: usize,
@@ -206,6 +215,7 @@ pub fn check_clean(
 }
 
 // The conditions of marking maxima.
+#[tactic(auto, using(crate::proofs::Refusals::maxima_plate, crate::proofs::Refusals::maxima_output, crate::proofs::Refusals::maxima_space))]
 pub fn check_maxima(image: &[u16], plate: PlateHead, out: usize, work: usize) -> Result<(), Refusal>
     ensures { refusal_of result ≡ maxima_refusal plate.connectivity plate.width plate.height plate.greatest image.now out work }
 {
