@@ -8,6 +8,7 @@ ghost use Rattle.work_columns.specs.Layout.{PARENT, greys_in};
 ghost use Rattle.maxtree_columns.specs.Tree.{TreeStands};
 ghost use Rattle.maxtree_attribute.specs.Attributes.{AreasCopied, AttributesSet, Handed, Line, Marked, OnLine, Raised};
 
+use maxtree_columns::TreeShape;
 use work_columns::{AREA, ATTRIBUTE, OWN, PARENT, Shape};
 
 // Gives each node its area for its attribute.
@@ -72,11 +73,11 @@ fn hand_marks(w: &mut [u32], g: Shape, count: usize)
 }
 
 // Gives each node its attribute.
-pub fn set_attributes(w: &mut [u32], g: Shape, count: usize)
-    requires { TreeStands g w.old count }
-    ensures { AttributesSet g w.old w.new count }
+pub fn set_attributes(w: &mut [u32], t: TreeShape)
+    requires { TreeStands t.shape w.old t.count }
+    ensures { AttributesSet t.shape w.old w.new t.count }
 {
-    copy_areas(w, g, count);
-    mark_edge(w, g, count);
-    hand_marks(w, g, count);
+    copy_areas(w, t.shape, t.count);
+    mark_edge(w, t.shape, t.count);
+    hand_marks(w, t.shape, t.count);
 }
