@@ -7,16 +7,18 @@ use native.Mathlib.Numerals.{add-one}
 use native.Mathlib.Omega.{arith}
 use lib.ListN.{length, length-append, get_or-append}
 use lib.Seq.{get_or-append-add}
-use Rattle.meaning.specs.Plate.{max_pixels}
+use Rattle.meaning.specs.Plate.{max_extent, max_greatest, max_pixels}
 use Rattle.meaning.specs.Sets.{gather, nth, table}
 use Rattle.theory_lists.proofs.Lists.{get_d_table, length-table}
 use Rattle.theory_lists.proofs.Sets.{below_suc}
+use Rattle.theory_connectivity.proofs.Connectivity.{kind_most}
+use Rattle.theory_connectivity.proofs.Sizes.{greatest_range, grid_sizes}
 use Rattle.work_columns.specs.Columns.{col}
-use Rattle.work_columns.specs.Layout.{AREA, LEVEL, OWN, PARENT}
+use Rattle.work_columns.specs.Layout.{AREA, LEVEL, OWN}
 use Rattle.work_columns.specs.declared.Shape.{Shape}
 use Rattle.maxtree_columns.specs.Tree.{Tree}
 use Rattle.maxtree_columns.proofs.Tree.{few_nodes, some-nodes}
-use Rattle.record_fields.specs.Fields.{column_fields, form_fields, node_columns}
+use Rattle.record_fields.specs.Fields.{column_fields, node_columns}
 
 -- ---- lists of three, one after the other
 
@@ -42,22 +44,6 @@ gather-same (suc m) g g' e =
     let a : gather m g ≡ gather m g' = gather-same m g g' (λ i l. e i (omega arith)) in
     let b : g m ≡ g' m = e m (omega arith) in
     cc
-
--- ---- the fields of a node by place; u: its parent
-
-module _ (g : Shape) (w : List ℕ) (i : ℕ) where
-  pub node_back : {part u : ℕ} → part ≡ 0 → u ≡ col PARENT g.pixels w i → i - u ≡ nth (node_columns g w i) part
-  unfolding node_columns
-  node_back e is = rw (e, is)
-
-  pub node_rise : {part u level below : ℕ} → part ≡ 1 → u ≡ col PARENT g.pixels w i → level ≡ col LEVEL g.pixels w i
-      → below ≡ col LEVEL g.pixels w u → level - below ≡ nth (node_columns g w i) part
-  unfolding node_columns
-  node_rise e is high low = rw (e, high, low, is)
-
-  pub node-area : {part size : ℕ} → part ≡ 2 → size ≡ col AREA g.pixels w i → size ≡ nth (node_columns g w i) part
-  unfolding node_columns
-  node-area e is = rw (e, is)
 
 -- ---- the fields by place
 
@@ -90,13 +76,6 @@ module _ {g : Shape} {f w : List ℕ} {count : ℕ} (t : Tree g f w count) where
 
   pub column_end : (i : ℕ) → 3 * count + 6 + n ≤ i → length (column_fields g w count) ≤ i
   column_end i l = omega (arith, column-length)
-
-  -- the first three
-  pub column_form : (i : ℕ) → i < 3 → nth (form_fields g.greatest) i ≡ nth (column_fields g w count) i
-  unfolding column_fields
-  column_form i l =
-      let rest : List ℕ = g.width ∷ g.height ∷ g.connectivity ∷ count ∷ col LEVEL n w 0 ∷ col AREA n w 0 ∷ (nodes ++ table n (col OWN n w)) in
-      sym (get_or-append (form_fields g.greatest) rest 0 i l)
 
   -- after the first nine
   after_nine : (j : ℕ) → nth (column_fields g w count) (9 + j) ≡ nth (nodes ++ table n (col OWN n w)) j
@@ -137,3 +116,27 @@ module _ {g : Shape} {f w : List ℕ} {count : ℕ} (t : Tree g f w count) where
   column_own_at i low high =
       let e : 3 * count + 6 + (i - (3 * count + 6)) ≡ i = omega arith in
       sym (column_own (i - (3 * count + 6)) (omega arith)) ∙ ap (λ (x : ℕ). nth (column_fields g w count) x) e
+
+-- ---- how large the numbers of the shape are
+pub record Small (g : Shape) (count : ℕ) : Type 0 where
+  pub some : 1 ≤ count
+  pub few : count ≤ g.pixels
+  pub pixels : g.pixels ≤ max_pixels
+  pub wide : g.width ≤ max_extent
+  pub high : g.height ≤ max_extent
+  pub kind : g.connectivity ≤ 8
+  pub greys : g.greatest ≤ max_greatest
+
+pub small : {g : Shape} {f w : List ℕ} {count : ℕ} → Tree g f w count → Small g count
+small {g} t = record {
+  some = some-nodes t;
+  few = few_nodes t;
+  pixels = t.room.small;
+  wide = (grid_sizes g.width g.height t.plate.sizes).wide.most;
+  high = (grid_sizes g.width g.height t.plate.sizes).high.most;
+  kind = kind_most g.connectivity t.plate.kind;
+  greys = (greatest_range g.greatest t.plate.range).most;
+}
+
+-- what the place of a field needs
+pub ruleset fields_at = (small, column_own_at, column-node_at)

@@ -1,21 +1,19 @@
 -- The loops over the fields that the columns spell: one field more, and what the loop gives.
 use mathlib.Core.Path.{◌≡◌, sym, ap, ◌∙◌}
-use mathlib.Core.Bool.{Bool, true, false}
+use mathlib.Core.Bool.{Bool, false}
 use mathlib.Core.List.{List, ◌++◌}
 use Prim.Native.Nat.{ℕ, ◌+◌, ◌-◌, ◌*◌, ◌≤◌, ◌<◌}
 use native.Mathlib.Omega.{arith}
 use lib.Dec.{eqb}
 use lib.ListN.{length, length-drop, take, drop}
 use lib.Seq.{get_or-drop}
-use Rattle.record_varint.specs.declared.Comparison.{Comparison}
-use Rattle.record_varint.specs.declared.Comparison.TheVariants.{Same, Different}
 use Rattle.meaning.specs.Answers.{over}
 use Rattle.meaning.specs.Record.{encode, record_in, record_of, varint}
 use Rattle.meaning.specs.Sets.{nth}
 use Rattle.work_columns.specs.Layout.{greys_in}
 use Rattle.work_columns.specs.declared.Shape.{Shape}
 use Rattle.maxtree_columns.specs.Tree.{TreeStands}
-use Rattle.record_varint.specs.Field.{comparison, same_at}
+use Rattle.record_varint.specs.Field.{accepted, refused, same_at}
 use Rattle.record_varint.proofs.Loops.{Matched, Measured, Wrote, matched_differs, matched_done, matched_more, measured_done, measured_more}
 use Rattle.record_varint.proofs.Loops.{wrote_done, wrote_more, wrote_room}
 use Rattle.record_parse.specs.Parse.{same_bytes}
@@ -23,10 +21,6 @@ use Rattle.record_fields.specs.Fields.{column_fields, first_field}
 use Rattle.record_fields.proofs.Bytes.{starts_differ, starts-same}
 use Rattle.record_fields.proofs.Fields.{column_end, column_inside, column-length}
 use Rattle.record_fields.proofs.Standing.{tree_record, tree_record_in}
-
-pub first_few : (new : Bool) → first_field new ≤ 3
-first_few true = omega arith
-first_few false = omega arith
 
 module _ {g : Shape} {w : List ℕ} {count : ℕ} (t : TreeStands g w count) where
   abbrev fs : List ℕ
@@ -72,24 +66,28 @@ module _ {g : Shape} {w : List ℕ} {count : ℕ} (t : TreeStands g w count) whe
     part_length : length part ≡ end - first_field new
     part_length = length-drop (first_field new) fs ∙ ap (λ (m : ℕ). m - first_field new) (column-length t)
 
-    module _ {first : ℕ} (i : ℕ) (from : first ≡ first_field new) where
-      inside : i < end - first → i < length part
-      inside l = omega (arith, part_length, from)
+    module _ {i : ℕ} (from : first_field new ≤ i) where
+      inside : i < end → i - first_field new < length part
+      inside l = omega (arith, part_length)
 
-      part_at : {v : ℕ} → v ≡ nth fs (first + i) → v ≡ nth part i
-      part_at is = rw from at is ∙ sym (get_or-drop (first_field new) fs i 0)
+      part_at : {v : ℕ} → v ≡ nth fs i → v ≡ nth part (i - first_field new)
+      part_at is =
+          let e : first_field new + (i - first_field new) ≡ i = omega arith in
+          is ∙ sym (rw e at (get_or-drop (first_field new) fs (i - first_field new) 0))
 
-      module _ {s : List ℕ} {at : ℕ} (m : Matched part s i at) where
-        module _ {v : ℕ} {r : Comparison} (l : i < end - first) (is : v ≡ nth fs (first + i)) (found : comparison v r ≡ same_at s at v) where
-          pub comparing_more : {next : ℕ} → r ≡ Same next → Matched part s (i + 1) next
-          comparing_more {next} e = matched_more part s i at m v (inside l) (part_at is) next (sym (ap (comparison v) e) ∙ found)
+      module _ {s : List ℕ} {at : ℕ} (m : Matched part s (i - first_field new) at) where
+        module _ {v : ℕ} (l : i < end) (is : v ≡ nth fs i) where
+          pub comparing_more : {next : ℕ} → accepted v next ≡ same_at s at v → Matched part s (i + 1 - first_field new) next
+          comparing_more {next} found =
+              let e : i + 1 - first_field new ≡ i - first_field new + 1 = omega arith in
+              rw e (matched_more part s (i - first_field new) at m v (inside l) (part_at is) next found)
 
-          pub comparing_differs : r ≡ Different → false ≡ same_bytes s bytes_in
-          comparing_differs e =
+          pub comparing_differs : refused 24 ≡ same_at s at v → false ≡ same_bytes s bytes_in
+          comparing_differs found =
               rw (tree_record_in t new)
-              (sym (starts_differ (encode part) s (matched_differs part s i at m v (inside l) (part_at is) (sym (ap (comparison v) e) ∙ found))))
+              (sym (starts_differ (encode part) s (matched_differs part s (i - first_field new) at m v (inside l) (part_at is) found)))
 
-        pub comparing_done : end - first ≤ i → eqb at (length s) ≡ same_bytes s bytes_in
+        pub comparing_done : end ≤ i → eqb at (length s) ≡ same_bytes s bytes_in
         comparing_done l =
-            let done = matched_done part s i at m (omega (arith, part_length, from)) in
+            let done = matched_done part s (i - first_field new) at m (omega (arith, part_length)) in
             rw (tree_record_in t new, done.0) (sym (starts-same (encode part) s done.1))

