@@ -1,2 +1,0 @@
--- Laws of the steps of flooding.
-pub mod Tops
