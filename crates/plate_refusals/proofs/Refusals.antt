@@ -8,12 +8,21 @@ use native.Mathlib.Decide.{dec_lt}
 use native.Mathlib.Omega.{arith}
 use lib.Dec.{T, leb, ltb, eqb, leb→le, ltb→lt, lt→ltb, eqb→eq}
 use lib.ListN.{length}
-use borrow.Author.Tests.{eqb-true, eq-eqb, not-false, ltb-false, le-leb, le-ltb}
+use borrow.Author.Tests.{eqb-true, eq-eqb, ne_eqb, not-false, ltb-false, le-leb, le-ltb}
 use Rattle.meaning.specs.Answers.{any_above, clean_refusal, filter_refusal, image_refusal, limit_refusal, maxima_refusal, out_refusal, plate_refusal}
 use Rattle.meaning.specs.Answers.{refuse, tables_refusal, tree_refusal, work_refusal}
 use Rattle.meaning.specs.Opening.{dark_side, light_side, side_fits}
 use Rattle.meaning.specs.Plate.{Plate, connectivity_fits, greatest_fits, grey, grid_fits, max_pixels}
 use Rattle.meaning.specs.Sets.{some}
+use Rattle.refusals.specs.declared.Refusal.{Refusal}
+use Rattle.plate_refusals.specs.declared.Side.{Side}
+use Rattle.plate_refusals.specs.declared.Side.TheVariants.{Light, Dark}
+use Rattle.plate_refusals.specs.Sides.{side_number}
+use Rattle.std.specs.Prelude.{IsTrue, ◌↔◌}
+use Rattle.std.proofs.lemmas.Grind.{get_or_default_zero}
+use Rattle.std.specs.List.{Any}
+use Rattle.refusals.specs.Numbers.{number_of}
+use Rattle.refusals.proofs.Numbers.{number_nonzero}
 use Rattle.theory_connectivity.proofs.Sizes.{grid_sizes}
 use Rattle.theory_lists.proofs.Sets.{some_elim, some_intro}
 use Rattle.theory_lists.proofs.Tests.{either_cases, passes, tests}
@@ -82,6 +91,16 @@ module _ (M : ℕ) (f : List ℕ) where
     | yes h ↦ (let x : true ≡ false = sym (above_met p l h) ∙ e in absurd (subst T x tt))
     | no h ↦ omega arith
   ]
+
+-- where `any` finds one
+pub above_is : (M : ℕ) (f : List ℕ) (b : Bool) → (IsTrue b ↔ Any (λ (x : ℕ). M < x) f) → b ≡ any_above M f
+above_is M f true e =
+    let (p, x, l, is, high) = e.0 refl in
+    sym (above_met M f p l (omega (arith, high, get_or_default_zero f p x l, is)))
+above_is M f false e = sym (above_none M f (λ p l. below p (dec_lt M (grey f p)) (λ high. absurd (subst T (sym (e.1 (p, grey f p, l, get_or_default_zero f p (grey f p) l, high))) tt))))
+  where
+    below : (p : ℕ) → Dec (M < grey f p) → (M < grey f p → ⊥) → grey f p ≤ M
+    below p d x = elim d [ yes h ↦ absurd (x h) | no h ↦ omega arith ]
 
 -- ---- the conditions that several operations share
 
@@ -205,25 +224,27 @@ filterable_none {k} {w} {h} {M} {limit} {f} {out} {work} s =
       le-ltb work (8 * (w * h)) s.space,
     )
 
--- p, q, s: what was found to be the refusals of the plate, of the limit and output, of the work space
-module _ (k w h M limit : ℕ) (f : List ℕ) (out work : ℕ) {p : ℕ} (e : p ≡ plate_refusal k w h M f 0) where
+-- the refusal of the plate, of the limit and output, of the work space is that of the operation
+module _ (k w h M limit : ℕ) (f : List ℕ) (out work : ℕ) where
   abbrev filter_further : ℕ → ℕ
   filter_further n = limit_refusal n limit (out_refusal n out (work_refusal n work 0))
 
-  pub filter_plate : (p ≡ 0 → ⊥) → p ≡ filter_refusal k w h M limit f out work
+  pub filter_plate : (r : Refusal) → number_of r ≡ plate_refusal k w h M f 0 → number_of r ≡ filter_refusal k w h M limit f out work
   unfolding filter_refusal
-  filter_plate x = decided (plate_chain k w h M f) e x (filter_further (w * h))
+  filter_plate r e = decided (plate_chain k w h M f) e (number_nonzero r) (filter_further (w * h))
 
-  module _ (z : p ≡ 0) {q : ℕ} (e₁ : q ≡ limit_refusal (length f) limit (out_refusal (length f) out 0)) where
+  module _ (e : 0 ≡ plate_refusal k w h M f 0) where
     filter_past : filter_refusal k w h M limit f out work ≡ filter_further (length f)
     unfolding filter_refusal
-    filter_past = plate_later (plate_taken k w h M f e z) filter_further
+    filter_past = plate_later (plate_taken k w h M f e refl) filter_further
 
-    pub filter_output : (q ≡ 0 → ⊥) → q ≡ filter_refusal k w h M limit f out work
-    filter_output x = decided (cut_chain (length f) limit out) e₁ x (work_refusal (length f) work 0) ∙ sym filter_past
+    pub filter_output : (r : Refusal) → number_of r ≡ limit_refusal (length f) limit (out_refusal (length f) out 0)
+        → number_of r ≡ filter_refusal k w h M limit f out work
+    filter_output r e₁ = decided (cut_chain (length f) limit out) e₁ (number_nonzero r) (work_refusal (length f) work 0) ∙ sym filter_past
 
-    pub filter_space : q ≡ 0 → {s : ℕ} → s ≡ work_refusal (length f) work 0 → s ≡ filter_refusal k w h M limit f out work
-    filter_space z₁ e₂ = e₂ ∙ sym (filter_past ∙ passed (cut_chain (length f) limit out) e₁ z₁ (work_refusal (length f) work 0))
+    pub filter_space : 0 ≡ limit_refusal (length f) limit (out_refusal (length f) out 0) → (s : ℕ) → s ≡ work_refusal (length f) work 0
+        → s ≡ filter_refusal k w h M limit f out work
+    filter_space e₁ s e₂ = e₂ ∙ sym (filter_past ∙ passed (cut_chain (length f) limit out) e₁ refl (work_refusal (length f) work 0))
 
 -- ---- cleaning
 
@@ -256,6 +277,20 @@ pub cleanable_none : {side k w h M limit : ℕ} {f : List ℕ} {out work : ℕ} 
 unfolding clean_refusal
 cleanable_none c = rw (side_fits_lem c.side_is) (filterable_none c.sizes)
 
+-- no side has the number
+pub clean_side : (side k w h M limit : ℕ) (f : List ℕ) (out work : ℕ) (e : Refusal)
+    → (e ≡ Refusal.Side) × (side ≡ light_side → ⊥) × (side ≡ dark_side → ⊥)
+    → number_of e ≡ clean_refusal side k w h M limit f out work
+unfolding clean_refusal side_fits
+clean_side side k w h M limit f out work e (is, light, dark) = rw (is, ne_eqb side light_side light, ne_eqb side dark_side dark)
+
+-- a side has it, and the further conditions decide
+pub clean_other : (side k w h M limit : ℕ) (f : List ℕ) (out work : ℕ) (r : ℕ) (s : Side) → side_number s ≡ side
+    → r ≡ filter_refusal k w h M limit f out work → r ≡ clean_refusal side k w h M limit f out work
+unfolding clean_refusal side_fits
+clean_other side k w h M limit f out work r Light is e = rw (sym is) e
+clean_other side k w h M limit f out work r Dark is e = rw (sym is) e
+
 -- ---- marking maxima
 
 pub record Markable (k w h M : ℕ) (f : List ℕ) (out work : ℕ) : Type 0 where
@@ -270,25 +305,25 @@ maxima_none k w h M f out work e =
     let (room, e₂) = out_none (w * h) out _ e₁ in
     record { taken = taken; room = room; space = (work_none (w * h) work 0 e₂).0 }
 
--- p, q, s: what was found to be the refusals of the plate, of the output, of the work space
-module _ (k w h M : ℕ) (f : List ℕ) (out work : ℕ) {p : ℕ} (e : p ≡ plate_refusal k w h M f 0) where
+-- the refusal of the plate, of the output, of the work space is that of the operation
+module _ (k w h M : ℕ) (f : List ℕ) (out work : ℕ) where
   abbrev maxima_further : ℕ → ℕ
   maxima_further n = out_refusal n out (work_refusal n work 0)
 
-  pub maxima_plate : (p ≡ 0 → ⊥) → p ≡ maxima_refusal k w h M f out work
+  pub maxima_plate : (r : Refusal) → number_of r ≡ plate_refusal k w h M f 0 → number_of r ≡ maxima_refusal k w h M f out work
   unfolding maxima_refusal
-  maxima_plate x = decided (plate_chain k w h M f) e x (maxima_further (w * h))
+  maxima_plate r e = decided (plate_chain k w h M f) e (number_nonzero r) (maxima_further (w * h))
 
-  module _ (z : p ≡ 0) {q : ℕ} (e₁ : q ≡ out_refusal (length f) out 0) where
+  module _ (e : 0 ≡ plate_refusal k w h M f 0) where
     maxima_past : maxima_refusal k w h M f out work ≡ maxima_further (length f)
     unfolding maxima_refusal
-    maxima_past = plate_later (plate_taken k w h M f e z) maxima_further
+    maxima_past = plate_later (plate_taken k w h M f e refl) maxima_further
 
-    pub maxima_output : (q ≡ 0 → ⊥) → q ≡ maxima_refusal k w h M f out work
-    maxima_output x = decided (out_chain (length f) out) e₁ x (work_refusal (length f) work 0) ∙ sym maxima_past
+    pub maxima_output : (r : Refusal) → number_of r ≡ out_refusal (length f) out 0 → number_of r ≡ maxima_refusal k w h M f out work
+    maxima_output r e₁ = decided (out_chain (length f) out) e₁ (number_nonzero r) (work_refusal (length f) work 0) ∙ sym maxima_past
 
-    pub maxima_space : q ≡ 0 → {s : ℕ} → s ≡ work_refusal (length f) work 0 → s ≡ maxima_refusal k w h M f out work
-    maxima_space z₁ e₂ = e₂ ∙ sym (maxima_past ∙ passed (out_chain (length f) out) e₁ z₁ (work_refusal (length f) work 0))
+    pub maxima_space : 0 ≡ out_refusal (length f) out 0 → (s : ℕ) → s ≡ work_refusal (length f) work 0 → s ≡ maxima_refusal k w h M f out work
+    maxima_space e₁ s e₂ = e₂ ∙ sym (maxima_past ∙ passed (out_chain (length f) out) e₁ refl (work_refusal (length f) work 0))
 
 -- ---- the node list, writing a record
 

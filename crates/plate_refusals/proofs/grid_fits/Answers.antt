@@ -25,12 +25,8 @@ returns-then-extent_fits-2 c =
 
 pub returns-else-extent_fits-2 : goal.returns-else-extent_fits-2
 unfolding grid_fits
-returns-else-extent_fits-2 c =
-    rw (
-      sym c.extent_fits.ensures ∙ c.if-extent_fits.true,
-      sym c.extent_fits-then-extent_fits.ensures ∙ c.if-extent_fits-2.false,
-    )
+returns-else-extent_fits-2 c = rw (c.if-extent_fits-2.false, sym c.if-extent_fits.ensures, sym c.if-extent_fits-2.ensures)
 
 pub returns-else-extent_fits : goal.returns-else-extent_fits
 unfolding grid_fits
-returns-else-extent_fits c = rw (sym c.extent_fits.ensures ∙ c.if-extent_fits.false)
+returns-else-extent_fits c = rw (c.if-extent_fits.false, sym c.if-extent_fits.ensures)

@@ -1,0 +1,2 @@
+-- The sides of cleaning.
+pub mod Sides
