@@ -1,8 +1,8 @@
 -- A header step by step: what a step's answer says of the grammar, where it went on and where it stopped.
 use mathlib.Core.Path.{◌≡◌, refl, sym, ap, ◌∙◌}
 use mathlib.Core.List.{List}
-use Prim.Native.Nat.{ℕ, ◌≤◌}
-use lib.ListN.{length, drop}
+use Prim.Native.Nat.{ℕ}
+use lib.ListN.{drop}
 use Rattle.std.proofs.Common.{Result, Ok, Err}
 use Rattle.pgm_header.specs.Grammar.{Token, mix, gap, one_blank, after_gap, number, opening, ParsedHeader, sound, faulty, on_gap, on_number, header}
 use Rattle.pgm_header.specs.Steps.{fault_number, GapStep, NumberStep}

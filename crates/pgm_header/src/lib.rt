@@ -2,16 +2,21 @@
 // specs/Steps.antt what the answers say in the grammar's terms.
 #![tactic(auto)]
 
-ghost use Rattle.std.specs.Prelude.{◌≡◌, ℕ, Bool, ◌≤◌, length, drop, not};
+ghost use Rattle.std.specs.Prelude.{◌≡◌, ℕ, Bool, ◌≤◌, length, drop};
 ghost use Rattle.pgm_header.specs.Grammar.{blank, line_end, in_comment, is_digit, front, digits_value, mix, comment, gap, one_blank, number, opening, header};
-ghost use Rattle.pgm_header.specs.Steps.{Computes, GapStep, NumberStep, header_of, RasterWithin, IsNumber, Skipped};
+ghost use Rattle.pgm_header.specs.Steps.{fault_number, Computes, GapStep, NumberStep, header_of, RasterWithin, IsNumber, Skipped};
+ghost use Rattle.refusals.specs.Numbers.{number_of};
 
+use refusals::Refusal;
 use std::error::Error;
 use std::fmt;
 
 // How many comments `skip_blanks` and `skip_comment` skip before they hand the cursor back. It bounds the depth of their calls, and so the
 // stack that they need: 64 bytes for each comment.
 const TURNS: usize = 100;
+
+// The most digits of a number.
+const MAX_DIGITS: usize = 5;
 
 // A place of a file: the number of a byte, counted from 0.
 #[derive(Clone, Copy, Debug, PartialEq, Eq)]
@@ -38,6 +43,17 @@ impl fmt::Display for HeaderFault {
 }
 
 impl Error for HeaderFault {}
+
+impl From<HeaderFault> for Refusal {
+    ghost from_gives = { λ fault refusal. number_of refusal ≡ fault_number fault };
+
+    fn from(fault: HeaderFault) -> Refusal {
+        match fault {
+            HeaderFault::Letters => Refusal::Letters,
+            HeaderFault::GapOrNumber => Refusal::GapOrNumber,
+        }
+    }
+}
 
 // How far skipping blanks and comments came.
 #[derive(Clone, Copy)]
@@ -166,7 +182,7 @@ impl Cursor {
             return Err(HeaderFault::GapOrNumber);
         };
         let n = front_length(rest, |b| b.is_ascii_digit());
-        if n < 1 || 5 < n {
+        if n < 1 || MAX_DIGITS < n {
             return Err(HeaderFault::GapOrNumber);
         }
         Ok((digits_value(&rest[..n]), Cursor { at: self.at + n }))

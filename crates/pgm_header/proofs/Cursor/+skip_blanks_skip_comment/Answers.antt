@@ -12,8 +12,8 @@ pub skip_blanks-returns-then-at-file : goal.skip_blanks-returns-then-at-file
 skip_blanks-returns-then-at-file t c =
     let count = c.front_length.ensures.counted blank (λ b r k. search rules) in
     elim c.then-at-file.branch [
-      skip_blanks-then-at-file-via-then-at-file w ↦ blanks_at_end _ _ _ count c.requires w.if-at-file.true
-    | skip_blanks-then-at-file-via-else-at-file+then-file-at-ne35 w ↦
+      | skip_blanks-then-at-file-via-then-at-file w ↦ blanks_at_end _ _ _ count c.requires w.if-at-file.true
+      | skip_blanks-then-at-file-via-else-at-file+then-file-at-ne35 w ↦
           blanks_at_other _ _ _ count c.requires w.if-at-file.false w.if-file-at-ne35.true
     ]
 

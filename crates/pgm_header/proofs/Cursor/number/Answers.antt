@@ -9,7 +9,7 @@ use Rattle.pgm_header.specs.declared.HeaderFault.TheVariants.{GapOrNumber}
 use Rattle.pgm_header.proofs.Front.{rest}
 use Rattle.pgm_header.proofs.Digits.{number_stopped, number_absent, number_empty, number_long, number_digits, number_step}
 use Rattle.pgm_header.proofs.Cursor.number.Goals as goal
-use Rattle.pgm_header.proofs.Cursor.number.Goals.{After-front_length-n, then-n-lt1-via-then-n-lt1, then-n-lt1-via-else-n-lt1+then-n-gt5}
+use Rattle.pgm_header.proofs.Cursor.number.Goals.{After-front_length-n, then-n-lt1-via-then-n-lt1, then-n-lt1-via-else-n-lt1+then-n-gt-MAX_DIGITS}
 
 there : (c : After-front_length-n) → c.in-Some.rest.now ≡ drop c.args.self.at c.args.file.now
 there c = rw (c.in-Some.ensures.lookup.0.2) (rest c.args.file.now c.args.self.at)
@@ -28,14 +28,14 @@ returns-then-n-lt1 c =
     let is = count (goal.at.returns-then-n-lt1 c).After-front_length-n in
     let s = c.args.file.now in
     elim c.then-n-lt1.branch [
-      then-n-lt1-via-then-n-lt1 w ↦ number_stopped GapOrNumber (number_empty s c.args.self.at is w.if-n-lt1.true)
-    | then-n-lt1-via-else-n-lt1+then-n-gt5 w ↦ number_stopped GapOrNumber (number_long s c.args.self.at is w.if-n-gt5.true)
+      | then-n-lt1-via-then-n-lt1 w ↦ number_stopped GapOrNumber (number_empty s c.args.self.at is w.if-n-lt1.true)
+      | then-n-lt1-via-else-n-lt1+then-n-gt-MAX_DIGITS w ↦ number_stopped GapOrNumber (number_long s c.args.self.at is w.if-n-gt-MAX_DIGITS.true)
     ]
 
 pub digits_value-requires : goal.digits_value-requires
 digits_value-requires c =
     let e = (goal.at.digits_value-requires c).After-front_length-n in
-    rw (there e) (number_digits c.args.file.now c.args.self.at (count e) c.if-n-gt5.false)
+    rw (there e) (number_digits c.args.file.now c.args.self.at (count e) c.if-n-gt-MAX_DIGITS.false)
 
 pub returns : goal.returns
 returns c =
