@@ -3,10 +3,13 @@ use mathlib.Core.Path.{◌≡◌, refl, sym, ap, ◌∙◌}
 use mathlib.Core.List.{List}
 use Prim.Native.Nat.{ℕ}
 use lib.ListN.{drop}
+use Rattle.std.specs.Result.{IsErrAnd}
 use Rattle.std.proofs.Common.{Result, Ok, Err}
-use Rattle.pgm_header.specs.Grammar.{Token, mix, gap, one_blank, after_gap, number, opening, ParsedHeader, sound, faulty, on_gap, on_number, header}
-use Rattle.pgm_header.specs.Steps.{fault_number, GapStep, NumberStep}
+use Rattle.std.proofs.lemmas.Result.{err_from_is_err_and}
+use Rattle.pgm_header.specs.Grammar.{Token, mix, gap, one_blank, after_gap, number, opening, ParsedHeader, sound, on_gap, on_number, header}
+use Rattle.pgm_header.specs.Steps.{GapStep, NumberStep, header_of}
 use Rattle.pgm_header.specs.declared.Cursor.{Cursor}
+use Rattle.pgm_header.specs.declared.Header.{Header}
 use Rattle.pgm_header.specs.declared.HeaderFault.{HeaderFault}
 
 -- ---- a gap: the blank is missing, or the mix after it decides
@@ -51,12 +54,12 @@ module _ {file : List ℕ} {p : ParsedHeader} {t : Token} where
     pub gap_on : {c : Cursor} → GapStep file t (Ok c) → p ≡ next (drop c.at file)
     gap_on k = e ∙ sym (ap (λ (u : Token). on_gap u next) k.same)
 
-    pub gap_off : {f : HeaderFault} → GapStep file t (Err f) → faulty (fault_number f) ≡ p
-    gap_off k = ap (λ (u : Token). on_gap u next) k.same ∙ sym e
+    pub gap_off : (r : Result Header HeaderFault) {f : HeaderFault} → IsErrAnd r (λ g. g ≡ f) → GapStep file t (Err f) → header_of file r ≡ p
+    gap_off r l k = let y = err_from_is_err_and r l in rw (y.1, y.2) (ap (λ (u : Token). on_gap u next) k.same ∙ sym e)
 
   module _ (next : ℕ → List ℕ → ParsedHeader) (e : p ≡ on_number t next) where
     pub number_on : {v : ℕ} {c : Cursor} → NumberStep file t (Ok (v, c)) → p ≡ next v (drop c.at file)
     number_on k = e ∙ sym (ap (λ (u : Token). on_number u next) k.same)
 
-    pub number_off : {f : HeaderFault} → NumberStep file t (Err f) → faulty (fault_number f) ≡ p
-    number_off k = ap (λ (u : Token). on_number u next) k.same ∙ sym e
+    pub number_off : (r : Result Header HeaderFault) {f : HeaderFault} → IsErrAnd r (λ g. g ≡ f) → NumberStep file t (Err f) → header_of file r ≡ p
+    number_off r l k = let y = err_from_is_err_and r l in rw (y.1, y.2) (ap (λ (u : Token). on_number u next) k.same ∙ sym e)

@@ -1,18 +1,9 @@
 -- The loop that works a number out, digit by digit.
-use native.Mathlib.Omega.{arith}
-use Rattle.pgm_header.proofs.Digits.{spelling_small, spelling_digit, spelling_more, spelling_done}
+use Rattle.pgm_header.proofs.Digits.{spelling_digit, spelling_more, spelling_done}
 use Rattle.pgm_header.proofs.digits_value.Goals as goal
 
 pub overflow_sub-b : goal.overflow_sub-b
 overflow_sub-b c = (spelling_digit c.requires c.loop-b.invariant c.loop-b-test.true).0
-
-pub overflow_mul-v : goal.overflow_mul-v
-overflow_mul-v c = omega (arith, spelling_small c.requires c.loop-b.invariant c.loop-b-test.true)
-
-pub overflow_add-v : goal.overflow_add-v
-overflow_add-v c =
-    let inv = c.loop-b.invariant in
-    omega (arith, c.from.ensures, spelling_digit c.requires inv c.loop-b-test.true, spelling_small c.requires inv c.loop-b-test.true)
 
 pub loop-b-preserved : goal.loop-b-preserved
 loop-b-preserved c = rw c.from.ensures (spelling_more c.requires c.loop-b.invariant c.loop-b-test.true)
