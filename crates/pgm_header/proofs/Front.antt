@@ -2,12 +2,11 @@
 use mathlib.Core.Path.{◌≡◌, refl, ◌∙◌}
 use mathlib.Core.Bool.{Bool, true, false}
 use mathlib.Core.List.{List, [], ◌∷◌, ◌++◌}
-use Prim.Native.Nat.{ℕ, zero, suc, ◌+◌, ◌-◌, ◌≤◌, ◌<◌}
+use Prim.Native.Nat.{ℕ, zero, suc, ◌+◌, ◌≤◌, ◌<◌}
 use native.Mathlib.Numerals.{add-one}
 use native.Mathlib.Omega.{arith}
 use lib.ListN.{length, take, drop, get_or, drop_of_length-le, length-drop}
 use lib.Seq.{drop-cons, drop-drop, get_or-drop}
-use Rattle.std.proofs.lemmas.List.{take_all}
 use Rattle.pgm_header.specs.Grammar.{front}
 
 module _ (test : ℕ → Bool) where
@@ -29,10 +28,6 @@ module _ (test : ℕ → Bool) where
   pub front_more : (s : List ℕ) (i : ℕ) → i < length s → test (get_or s i 0) ≡ true
       → front test (drop i s) ≡ suc (front test (drop (i + 1) s))
   front_more s i h e = rw (add-one i, drop-cons s i 0 h) (front_hit (get_or s i 0) (drop (suc i) s) e)
-
--- the bytes from a place to the file's end
-pub rest : (s : List ℕ) (at : ℕ) → take (length s - at) (drop at s) ≡ drop at s
-rest s at = take_all (length s - at) (drop at s) (omega (arith, length-drop at s))
 
 -- ---- where the bytes that pass end
 

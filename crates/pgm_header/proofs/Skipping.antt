@@ -9,13 +9,14 @@ use borrow.Author.Tests.{ne_eqb, not-true, not-false}
 use lib.ListN.{length, take, drop, get_or, drop_of_length-le}
 use lib.Seq.{drop-cons}
 use Rattle.std.proofs.Common.{Result, Ok, Err}
+use Rattle.theory_lists.proofs.Lists.{take_rest}
 use Rattle.pgm_header.specs.Grammar.{gap_then, blank, line_end, in_comment, mix, comment, front}
 use Rattle.pgm_header.specs.Steps.{Skipped, SkipWithin}
 use Rattle.pgm_header.specs.declared.Skip.{Skip}
 use Rattle.pgm_header.specs.declared.Skip.TheVariants.{Past, Paused}
 use Rattle.pgm_header.specs.declared.HeaderFault.{HeaderFault}
 use Rattle.pgm_header.specs.declared.HeaderFault.TheVariants.{GapOrNumber}
-use Rattle.pgm_header.proofs.Front.{Ends, ends, past, rest}
+use Rattle.pgm_header.proofs.Front.{Ends, ends, past}
 
 -- ---- the grammar at one byte
 
@@ -49,7 +50,7 @@ within_from s from from' turns turns' (Err f) h w = tt
 
 module _ (s : List ℕ) (at n : ℕ) (count : n ≡ front blank (take (length s - at) (drop at s))) (h : at ≤ length s) where
   is_blanks : at + n ≡ at + front blank (drop at s)
-  is_blanks = rw (count, rest)
+  is_blanks = rw (count, take_rest)
 
   from_blanks : mix (drop at s) ≡ mix (drop (at + n) s)
   from_blanks = past blank s at (at + n) is_blanks mix mix_blank
@@ -86,7 +87,7 @@ module _ (s : List ℕ) (at n : ℕ) (count : n ≡ front blank (take (length s 
 
 module _ (s : List ℕ) (at n : ℕ) (count : n ≡ front in_comment (take (length s - at) (drop at s))) (h : at ≤ length s) where
   is_comment : at + n ≡ at + front in_comment (drop at s)
-  is_comment = rw (count, rest)
+  is_comment = rw (count, take_rest)
 
   from_comment : comment (drop at s) ≡ comment (drop (at + n) s)
   from_comment = past in_comment s at (at + n) is_comment comment comment_inside

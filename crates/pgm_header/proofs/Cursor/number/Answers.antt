@@ -6,13 +6,13 @@ use lib.ListN.{length, drop}
 use Rattle.std.proofs.Common.{rules}
 use Rattle.pgm_header.specs.Grammar.{is_digit, front}
 use Rattle.pgm_header.specs.declared.HeaderFault.TheVariants.{GapOrNumber}
-use Rattle.pgm_header.proofs.Front.{rest}
+use Rattle.theory_lists.proofs.Lists.{take_rest}
 use Rattle.pgm_header.proofs.Digits.{number_stopped, number_absent, number_empty, number_long, number_digits, number_step}
 use Rattle.pgm_header.proofs.Cursor.number.Goals as goal
 use Rattle.pgm_header.proofs.Cursor.number.Goals.{After-front_length-n, then-n-lt1-via-then-n-lt1, then-n-lt1-via-else-n-lt1+then-n-gt-MAX_DIGITS}
 
 there : (c : After-front_length-n) → c.in-Some.rest.now ≡ drop c.args.self.at c.args.file.now
-there c = rw (c.in-Some.ensures.lookup.0.2) (rest c.args.file.now c.args.self.at)
+there c = rw (c.in-Some.ensures.lookup.0.2) (take_rest c.args.file.now c.args.self.at)
 
 count : (c : After-front_length-n) → c.front_length-n.result ≡ front is_digit (drop c.args.self.at c.args.file.now)
 unfolding is_digit
