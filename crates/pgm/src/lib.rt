@@ -135,7 +135,7 @@ impl PgmHead {
     }
 
     // The refusals after a sound header, where the output's length is `room`.
-    #[tactic(auto, unfolding(crate::specs::File::raster_refusal))]
+    #[tactic(auto, using(crate::proofs::Readable::raster_stopped), unfolding(crate::specs::File::raster_refusal))]
     fn check_raster(self, raster: &[u8], room: usize) -> Result<(), Refusal>
         ensures { refusal_of result ≡ raster_refusal self.width self.height self.greatest raster.now room }
     {
