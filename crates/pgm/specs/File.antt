@@ -6,6 +6,7 @@ use Rattle.meaning.specs.Answers.{refuse, any_above, greys_refusal, out_refusal,
 use Rattle.pgm_header.specs.Grammar.{ParsedHeader, sound, faulty, header}
 use Rattle.refusals.specs.Numbers.{number_of}
 use Rattle.refusals.specs.declared.Refusal.{Refusal}
+use Rattle.pgm_header.specs.declared.Header.{Header}
 use Rattle.pgm.specs.declared.PgmHead.{PgmHead}
 use Rattle.pgm.specs.declared.PgmRead.{PgmRead}
 
@@ -49,6 +50,10 @@ raster_refusal w h M raster room =
 -- a refusal: its number, and zeros elsewhere
 abbrev pub refused_read : ℕ → PgmRead
 refused_read n = record { refusal = n; width = 0; height = 0; greatest = 0 }
+
+-- a header without the place of its raster
+abbrev pub head_of : Header → PgmHead
+head_of h = record { width = h.width; height = h.height; greatest = h.greatest }
 
 -- what an answer says: the sizes and the greatest grey, or the refusal
 abbrev pub read_answer : Result PgmHead Refusal → PgmRead

@@ -6,9 +6,10 @@ ghost use Rattle.std.specs.Prelude.{◌≡◌, true, ◌*◌, ◌≤◌, ◌<◌
 ghost use Rattle.meaning.specs.Plate.{grid_fits, grey};
 ghost use Rattle.meaning.specs.Answers.{any_above, over, out_after};
 ghost use Rattle.refusals.specs.Numbers.{refusal_of};
-ghost use Rattle.pgm.specs.File.{pixel_bytes, raster_bytes, greys_of, short_refusal, raster_refusal, read_answer};
+ghost use Rattle.pgm.specs.File.{pixel_bytes, raster_bytes, greys_of, short_refusal, raster_refusal, head_of, read_answer};
 ghost use Rattle.pgm.specs.File.{ReadPlate, read_pgm, plate_of};
 
+use pgm_header::Header;
 use refusals::Refusal;
 
 // The sizes and the greatest grey of a plate file.
@@ -17,6 +18,18 @@ pub struct PgmHead {
     pub width: u32,
     pub height: u32,
     pub greatest: u32,
+}
+
+impl From<Header> for PgmHead {
+    ghost from_gives = { λ header head. head ≡ head_of header };
+
+    fn from(header: Header) -> PgmHead {
+        PgmHead {
+            width: header.width,
+            height: header.height,
+            greatest: header.greatest,
+        }
+    }
 }
 
 // What the C function that reads a plate file answers: 0 or the refusal, and the sizes and the greatest grey, which are 0 where it refuses.
@@ -167,10 +180,5 @@ pub fn read_pgm(file: &[u8], out: &mut [u16]) -> Result<PgmHead, Refusal>
         out.old }
 {
     let header = pgm_header::header_at(file, 0)?;
-    let head = PgmHead {
-        width: header.width,
-        height: header.height,
-        greatest: header.greatest,
-    };
-    head.read_plate(&file[header.raster.at..], out)
+    PgmHead::from(header).read_plate(&file[header.raster.at..], out)
 }

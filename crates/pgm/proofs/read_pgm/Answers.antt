@@ -10,6 +10,6 @@ returns-in_err-header c =
 
 pub returns : goal.returns
 returns c =
-    let k = rw (take_rest c.args.file.now c.in_ok-header.header.raster.at) at c.read_plate.ensures in
+    let k = rw (take_rest c.args.file.now c.in_ok-header.header.raster.at, c.from.ensures) at c.read_plate.ensures in
     let both = file_read c.args.file.now c.args.out.now c.in_ok-header.ensures.result_value k in
     record { value = both.0; out_after = both.1 }
