@@ -4,11 +4,18 @@ use mathlib.Core.Bool.{Bool, true, false}
 use mathlib.Core.List.{List, [], ◌∷◌}
 use mathlib.Core.Logic.{◌⊎◌, inl, inr}
 use Prim.Native.Nat.{ℕ, zero, suc, ◌+◌, ◌*◌, ◌/◌, ◌≤◌, ◌<◌}
+use native.Mathlib.Nat.{zero-add}
 use native.Mathlib.Omega.{arith}
 use borrow.Author.Tests.{leb-true}
 use lib.Dec.{leb}
 use lib.ListN.{length}
-use Rattle.meaning.specs.Plate.{byte_greatest, grey}
+use Rattle.std.specs.Bool.{MatchBool}
+use Rattle.std.specs.List.{AllWithin, HoldsAt, range_with_len}
+use Rattle.std.proofs.lemmas.List.FromFn.{get_or-range_with_len, length-range_with_len}
+use Rattle.meaning.specs.Answers.{any_above}
+use Rattle.plate_refusals.proofs.Refusals.{above_met, above_none}
+use Rattle.meaning.specs.Plate.{byte_greatest, grey, grid_fits, max_pixels}
+use Rattle.theory_connectivity.proofs.Sizes.{grid_sizes}
 use Rattle.pgm.specs.File.{pairs, pixel_bytes, greys_of}
 
 -- ---- pairs
@@ -65,6 +72,10 @@ bytes_most M n = elim (one_or_two M) [
   | inr e ↦ rw e (omega arith)
 ]
 
+-- the pixels of a plate within the grid are few
+pub few_pixels : (w h : ℕ) → grid_fits w h ≡ true → w * h ≤ max_pixels
+few_pixels w h e = (grid_sizes w h e).few_pixels
+
 module _ (M : ℕ) (raster : List ℕ) where
   pub one_byte : pixel_bytes M ≡ 1 → greys_of M raster ≡ raster
   unfolding greys_of
@@ -105,5 +116,19 @@ module _ (M : ℕ) (raster : List ℕ) where
       pub pair_within : 2 * p + 1 < length raster
       pair_within = omega (arith, l, ap length (two_bytes two), pairs-length raster)
 
-      pub pair-grey : 256 * grey raster (2 * p) + grey raster (2 * p + 1) ≡ grey (greys_of M raster) p
-      pair-grey = rw (two_bytes two) (sym (pairs_at raster p pair_within))
+      pub pair_grey : 256 * grey raster (2 * p) + grey raster (2 * p + 1) ≡ grey (greys_of M raster) p
+      pair_grey = rw (two_bytes two) (sym (pairs_at raster p pair_within))
+
+-- ---- 28
+
+-- where a search over the pixels finds one above the greatest
+pub above_is : (M : ℕ) (f : List ℕ) (n : ℕ) → n ≡ length f → (r : Bool)
+    → MatchBool r ((k : ℕ) × (k < length (range_with_len 0 n)) × HoldsAt (λ p. M < grey f p) (range_with_len 0 n) k)
+    (AllWithin (λ p. grey f p ≤ M) (range_with_len 0 n) 0 (length (range_with_len 0 n)))
+    → r ≡ any_above M f
+above_is M f n long true (k, l, high) =
+    let l' : k < n = omega (arith, length-range_with_len 0 n) in
+    sym (above_met M f k (omega arith) (rw (get_or-range_with_len 0 n k 0 l', zero-add) at (high 0)))
+above_is M f n long false low =
+    sym (above_none M f (λ p l. let l' : p < n = omega arith in
+    rw (get_or-range_with_len 0 n p 0 l', zero-add) at (low p 0 (omega arith) (omega (arith, length-range_with_len 0 n)))))

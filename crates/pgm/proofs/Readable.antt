@@ -10,6 +10,9 @@ use lib.ListN.{length}
 use Rattle.meaning.specs.Plate.{grid_fits, greatest_fits, grey}
 use Rattle.meaning.specs.Answers.{any_above}
 use Rattle.plate_refusals.proofs.Refusals.{Chain, above_none, chained, decided, none_above, one, out_none, refuse-none}
+use Rattle.refusals.specs.Numbers.{number_of}
+use Rattle.refusals.specs.declared.Refusal.{Refusal}
+use Rattle.refusals.proofs.Numbers.{number_nonzero}
 use Rattle.pgm.specs.File.{greys_of, raster_bytes, raster_refusal, short_refusal}
 use Rattle.pgm.proofs.Raster.{greys_long}
 
@@ -87,6 +90,10 @@ pub raster_short : (w h M : ℕ) (raster : List ℕ) (room : ℕ) {n : ℕ} → 
     → n ≡ raster_refusal w h M raster room
 unfolding raster_refusal
 raster_short w h M raster room is x = decided (short_chain w h M (length raster)) is x _
+
+pub raster_stopped : (w h M : ℕ) (raster : List ℕ) (room : ℕ) (r : Refusal) → number_of r ≡ short_refusal w h M (length raster) 0
+    → number_of r ≡ raster_refusal w h M raster room
+raster_stopped w h M raster room r is = raster_short w h M raster room is (number_nonzero r)
 
 -- and nothing is refused where that holds
 pub raster_read : (w h M : ℕ) (raster : List ℕ) (room : ℕ) → length raster ≡ raster_bytes w h M → Readable w h M (greys_of M raster) room

@@ -1,48 +1,32 @@
 -- Reading a file: a plate after a sound header, refused or read, and a file whose header is faulty.
-use mathlib.Core.Path.{◌≡◌, refl, sym, ap, ◌∙◌}
+use mathlib.Core.Path.{◌≡◌, refl, sym, ◌∙◌}
 use mathlib.Core.Bool.{Bool, true, false}
 use mathlib.Core.List.{List}
 use Prim.Native.Nat.{ℕ, ◌≤◌, ◌<◌}
 use native.Mathlib.Omega.{arith}
-use borrow.Author.Tests.{ne_eqb, eqb-true}
+use borrow.Author.Tests.{eqb-true}
 use lib.Dec.{eqb}
-use lib.ListN.{length, drop}
-use Rattle.meaning.specs.Answers.{over, out_after}
+use lib.ListN.{length}
+use Rattle.std.specs.Result.{IsErrAnd}
+use Rattle.std.proofs.Common.{Result}
+use Rattle.std.proofs.lemmas.Result.{err_from_is_err_and}
+use Rattle.meaning.specs.Answers.{out_after}
+use Rattle.refusals.specs.Numbers.{number_of}
+use Rattle.refusals.specs.declared.Refusal.{Refusal}
 use Rattle.pgm_header.specs.Grammar.{ParsedHeader, sound, faulty, header}
-use Rattle.pgm_header.specs.Steps.{fault_number, header_of, RasterWithin}
-use Rattle.pgm_header.specs.declared.Cursor.{Cursor}
+use Rattle.pgm_header.specs.Steps.{fault_number}
 use Rattle.pgm_header.specs.declared.HeaderFault.{HeaderFault}
 use Rattle.pgm_header.specs.declared.HeaderFault.TheVariants.{Letters, GapOrNumber}
-use Rattle.pgm_header.specs.declared.Header.{Header}
-use Rattle.pgm_header.specs.declared.Header.TheVariants.{Sound, Faulty}
 use Rattle.pgm_header.proofs.Faults.{fault_positive}
-use Rattle.pgm.specs.File.{greys_of, raster_refusal, refused_read, sizes_read, ReadPlate, answer_of, read_pgm, plate_after, plate_of}
+use Rattle.pgm.specs.File.{greys_of, raster_refusal, read_answer, sizes_read, ReadPlate, answer_of, read_pgm, plate_after, plate_of}
+use Rattle.pgm.specs.declared.PgmHead.{PgmHead}
 use Rattle.pgm.specs.declared.PgmRead.{PgmRead}
 use Rattle.pgm.proofs.Readable.{Readable, raster_none}
 
-module _ (w h M : ℕ) (raster out : List ℕ) {n : ℕ} (is : n ≡ raster_refusal w h M raster (length out)) where
-  pub plate_fits : n ≡ 0 → length (greys_of M raster) ≤ length out
-  plate_fits z = let r = raster_none w h M raster (length out) (sym is ∙ z) in omega (arith, r.long, r.fits)
-
-  pub plate_refused : {r : PgmRead} → (n ≡ 0 → ⊥) → r ≡ refused_read n → ReadPlate w h M raster out r out
-  plate_refused ne e = record { answer = e ∙ rw (← is, ne_eqb n 0 ne); output = rw (← is, ne_eqb n 0 ne) }
-
-  pub plate_read : {after : List ℕ} → n ≡ 0 → after ≡ over (greys_of M raster) out
-      → ReadPlate w h M raster out (record { refusal = 0; width = w; height = h; greatest = M }) after
-  plate_read z e = record { answer = rw (← is, z); output = e ∙ rw (← is, z) }
+pub plate_fits : (w h M : ℕ) (raster out : List ℕ) → 0 ≡ raster_refusal w h M raster (length out) → length (greys_of M raster) ≤ length out
+plate_fits w h M raster out e = let r = raster_none w h M raster (length out) (sym e) in omega (arith, r.long, r.fits)
 
 -- ---- a file whose header was read
-
--- the plate after the header begins at the cursor
-pub record Begins (file : List ℕ) (w h M : ℕ) (c : Cursor) : Type 0 where
-  pub parsed : header file ≡ sound w h M (drop c.at file)
-  pub within : c.at ≤ length file
-
-pub begins : (file : List ℕ) {r : Header} {w h M : ℕ} {c : Cursor} → (header_of file r ≡ header file) × RasterWithin file r → r ≡ Sound w h M c
-    → Begins file w h M c
-begins file {w = w} {h} {M} {c} k e =
-    let k' : (sound w h M (drop c.at file) ≡ header file) × (c.at ≤ length file) = rw e at k in
-    record { parsed = sym k'.0; within = k'.1 }
 
 -- what is promised of reading a file: the answer, and the output afterwards
 abbrev Promised : List ℕ → List ℕ → PgmRead → List ℕ → Type 0
@@ -53,12 +37,12 @@ fault_refuses : (f : HeaderFault) → eqb (fault_number f) 0 ≡ false
 fault_refuses Letters = refl
 fault_refuses GapOrNumber = refl
 
-pub file_refused : (file out : List ℕ) {a : Header} {f : HeaderFault} {n : ℕ} {r : PgmRead} → header_of file a ≡ header file → a ≡ Faulty f
-    → n ≡ fault_number f → r ≡ refused_read n → Promised file out r out
+pub file_refused : (file out : List ℕ) (f : HeaderFault) (r : Result PgmHead Refusal) → IsErrAnd r (λ y. number_of y ≡ fault_number f)
+    → faulty (fault_number f) ≡ header file → Promised file out (read_answer r) out
 unfolding read_pgm plate_of
-file_refused file out {a} {f} {n} e k i j =
-    let p : faulty (fault_number f) ≡ header file = rw k at e in
-    (j ∙ ap refused_read i ∙ rw (← p), rw (← p, fault_refuses f))
+file_refused file out f r k p =
+    let y = err_from_is_err_and r k in
+    (rw (y.1, y.2, ← p), rw (← p, fault_refuses f))
 
 pub refusal_is : (n w h M : ℕ) → (sizes_read n w h M).refusal ≡ n
 refusal_is n w h M = by_test (eqb n 0) refl
@@ -67,12 +51,12 @@ refusal_is n w h M = by_test (eqb n 0) refl
     by_test true e = rw e (sym (eqb-true n 0 e))
     by_test false e = rw e
 
-pub file_read : (file out : List ℕ) {w h M : ℕ} {c : Cursor} {r : PgmRead} {after : List ℕ} → Begins file w h M c
-    → ReadPlate w h M (drop c.at file) out r after → Promised file out r after
+pub file_read : (file out : List ℕ) {w h M : ℕ} {raster : List ℕ} {r : PgmRead} {after : List ℕ} → sound w h M raster ≡ header file
+    → ReadPlate w h M raster out r after → Promised file out r after
 unfolding read_pgm plate_of
-file_read file out {w} {h} {M} {c} b k = (
-  k.answer ∙ rw b.parsed,
-  k.output ∙ rw (b.parsed, refusal_is (raster_refusal w h M (drop c.at file) (length out)) w h M),
+file_read file out {w} {h} {M} {raster} p k = (
+  k.answer ∙ rw (← p),
+  k.output ∙ rw (← p, refusal_is (raster_refusal w h M raster (length out)) w h M),
 )
 
 -- ---- a file that is not refused

@@ -1,9 +1,13 @@
 -- What reading a plate file answers: the refusals of SPECIFICATION 9 in their order, and the plate. 10 and 11 are the header's faults.
-use Rattle.std.specs.Prelude.{◌≡◌, not, List, [], ◌∷◌, ℕ, ◌+◌, ◌*◌, eqb, leb, ltb, length}
+use Rattle.std.specs.Prelude.{◌≡◌, not, List, [], ◌∷◌, ℕ, ◌+◌, ◌*◌, eqb, leb, ltb, length, Result, Ok, Err}
 use Rattle.meaning.specs.Sets.{pick}
 use Rattle.meaning.specs.Plate.{byte_greatest, grid_fits, greatest_fits}
 use Rattle.meaning.specs.Answers.{refuse, any_above, greys_refusal, out_refusal, out_after}
 use Rattle.pgm_header.specs.Grammar.{ParsedHeader, sound, faulty, header}
+use Rattle.refusals.specs.Numbers.{number_of}
+use Rattle.refusals.specs.declared.Refusal.{Refusal}
+use Rattle.pgm_header.specs.declared.Header.{Header}
+use Rattle.pgm.specs.declared.PgmHead.{PgmHead}
 use Rattle.pgm.specs.declared.PgmRead.{PgmRead}
 
 -- ---- the raster. M: the greatest grey, the header's third number
@@ -46,6 +50,15 @@ raster_refusal w h M raster room =
 -- a refusal: its number, and zeros elsewhere
 abbrev pub refused_read : ℕ → PgmRead
 refused_read n = record { refusal = n; width = 0; height = 0; greatest = 0 }
+
+-- a header without the place of its raster
+abbrev pub head_of : Header → PgmHead
+head_of h = record { width = h.width; height = h.height; greatest = h.greatest }
+
+-- what an answer says: the sizes and the greatest grey, or the refusal
+abbrev pub read_answer : Result PgmHead Refusal → PgmRead
+read_answer (Ok h) = record { refusal = 0; width = h.width; height = h.height; greatest = h.greatest }
+read_answer (Err r) = refused_read (number_of r)
 
 -- a refusal where there is one, else the sizes and the greatest grey
 abbrev pub sizes_read : ℕ → ℕ → ℕ → ℕ → PgmRead

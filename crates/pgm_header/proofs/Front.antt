@@ -1,8 +1,8 @@
--- How many bytes from a place on pass a test, and the loop that finds the first that does not.
+-- How many bytes from a place on pass a test.
 use mathlib.Core.Path.{◌≡◌, refl, ◌∙◌}
 use mathlib.Core.Bool.{Bool, true, false}
 use mathlib.Core.List.{List, [], ◌∷◌, ◌++◌}
-use Prim.Native.Nat.{ℕ, zero, suc, ◌+◌, ◌-◌, ◌≤◌, ◌<◌}
+use Prim.Native.Nat.{ℕ, zero, suc, ◌+◌, ◌≤◌, ◌<◌}
 use native.Mathlib.Numerals.{add-one}
 use native.Mathlib.Omega.{arith}
 use lib.ListN.{length, take, drop, get_or, drop_of_length-le, length-drop}
@@ -22,32 +22,12 @@ module _ (test : ℕ → Bool) where
   unfolding front
   front_end s i h = rw (drop_of_length-le s h)
 
-  front-stop : (s : List ℕ) (i : ℕ) → i < length s → test (get_or s i 0) ≡ false → front test (drop i s) ≡ 0
-  front-stop s i h e = rw (drop-cons s i 0 h) (front_miss (get_or s i 0) (drop (suc i) s) e)
+  pub front_stop : (s : List ℕ) (i : ℕ) → i < length s → test (get_or s i 0) ≡ false → front test (drop i s) ≡ 0
+  front_stop s i h e = rw (drop-cons s i 0 h) (front_miss (get_or s i 0) (drop (suc i) s) e)
 
-  front-more : (s : List ℕ) (i : ℕ) → i < length s → test (get_or s i 0) ≡ true
+  pub front_more : (s : List ℕ) (i : ℕ) → i < length s → test (get_or s i 0) ≡ true
       → front test (drop i s) ≡ suc (front test (drop (i + 1) s))
-  front-more s i h e = rw (add-one i, drop-cons s i 0 h) (front_hit (get_or s i 0) (drop (suc i) s) e)
-
--- the loop that looks for the first byte from `at` on that does not pass is at i
-pub record Passed (test : ℕ → Bool) (s : List ℕ) (at i : ℕ) : Type 0 where
-  pub from : at ≤ i
-  pub within : i ≤ length s
-  pub same : at + front test (drop at s) ≡ i + front test (drop i s)
-
-module _ (test : ℕ → Bool) (s : List ℕ) where
-  pub passed_first : (at : ℕ) → at ≤ length s → Passed test s at at
-  passed_first at h = record { from = omega arith; within = h; same = refl }
-
-module _ (test : ℕ → Bool) {s : List ℕ} {at i : ℕ} where
-  pub passed_more : Passed test s at i → i < length s → test (get_or s i 0) ≡ true → Passed test s at (i + 1)
-  passed_more p h e = record { from = omega arith; within = omega arith; same = let m = front-more test s i h e in omega arith }
-
-  pub passed_stop : Passed test s at i → i < length s → test (get_or s i 0) ≡ false → i ≡ at + front test (drop at s)
-  passed_stop p h e = let m = front-stop test s i h e in omega arith
-
-  pub passed_end : Passed test s at i → length s ≤ i → i ≡ at + front test (drop at s)
-  passed_end p h = let m = front_end test s i h in omega arith
+  front_more s i h e = rw (add-one i, drop-cons s i 0 h) (front_hit (get_or s i 0) (drop (suc i) s) e)
 
 -- ---- where the bytes that pass end
 
@@ -88,7 +68,7 @@ module _ (test : ℕ → Bool) where
   front_fails [] h = absurd (omega arith)
   front_fails (b ∷ s) h = fails_cons test b s (test b) refl (front_fails s) h
 
-  front_passes : (s : List ℕ) (k : ℕ) → k < front test s → test (get_or s k 0) ≡ true
+  pub front_passes : (s : List ℕ) (k : ℕ) → k < front test s → test (get_or s k 0) ≡ true
   unfolding front
   front_passes [] k h = absurd (omega arith)
   front_passes (b ∷ s) k h = passes_cons test b s (test b) refl (front_passes s) k h
@@ -118,12 +98,6 @@ module _ (test : ℕ → Bool) (s : List ℕ) (at i : ℕ) (is : i ≡ at + fron
     within = let m = front_within test (drop at s) in omega (arith, length-drop at s);
     fails = λ l. rw (is, ← get_or-drop) (front_fails test (drop at s) (omega (arith, length-drop at s)));
   }
-
-  -- every byte from `at` to i passes
-  pub passes : (k : ℕ) → at ≤ k → k < i → test (get_or s k 0) ≡ true
-  passes k l h =
-      let e : at + (k - at) ≡ k = omega arith in
-      rw (← e, ← get_or-drop) (front_passes test (drop at s) (k - at) (omega arith))
 
   -- what a byte that passes does not change is the same at both places
   pub past : {X : Type 0} (f : List ℕ → X) → ((b : ℕ) (s : List ℕ) → test b ≡ true → f (b ∷ s) ≡ f s) → f (drop at s) ≡ f (drop i s)

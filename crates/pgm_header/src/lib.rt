@@ -2,23 +2,30 @@
 // specs/Steps.antt what the answers say in the grammar's terms.
 #![tactic(auto)]
 
-ghost use Rattle.std.specs.Prelude.{◌≡◌, ◌+◌, ◌≤◌, length, drop};
-ghost use Rattle.std.proofs.Math.Seq.{slice};
+ghost use Rattle.std.specs.Prelude.{◌≡◌, ℕ, Bool, ◌≤◌, length, drop};
 ghost use Rattle.pgm_header.specs.Grammar.{blank, line_end, in_comment, is_digit, front, digits_value, mix, comment, gap, one_blank, number, opening, header};
-ghost use Rattle.pgm_header.specs.Steps.{fault_number, Stepped, step_fault, header_of, RasterWithin, Digits, Skipped};
+ghost use Rattle.pgm_header.specs.Steps.{fault_number, Computes, GapStep, NumberStep, header_of, RasterWithin, IsNumber, Skipped};
+ghost use Rattle.refusals.specs.Numbers.{number_of};
+
+use refusals::Refusal;
+use std::error::Error;
+use std::fmt;
 
 // How many comments `skip_blanks` and `skip_comment` skip before they hand the cursor back. It bounds the depth of their calls, and so the
 // stack that they need: 64 bytes for each comment.
 const TURNS: usize = 100;
 
+// The most digits of a number.
+const MAX_DIGITS: usize = 5;
+
 // A place of a file: the number of a byte, counted from 0.
-#[derive(Clone, Copy)]
+#[derive(Clone, Copy, Debug, PartialEq, Eq)]
 pub struct Cursor {
     pub at: usize,
 }
 
 // What is wrong with a header.
-#[derive(Clone, Copy)]
+#[derive(Clone, Copy, Debug, PartialEq, Eq)]
 pub enum HeaderFault {
     // It does not open with "P5".
     Letters,
@@ -26,298 +33,194 @@ pub enum HeaderFault {
     GapOrNumber,
 }
 
-// A header step's answer: what it found, with the cursor after it, or what is wrong.
-#[derive(Clone, Copy)]
-pub enum HeaderStep {
-    Number(u32, Cursor),
-    Gap(Cursor),
-    Faulty(HeaderFault),
+impl fmt::Display for HeaderFault {
+    fn fmt<W: fmt::Write>(&self, f: &mut fmt::Formatter<W>) -> fmt::Result {
+        f.write_str(match self {
+            HeaderFault::Letters => "does not open with P5",
+            HeaderFault::GapOrNumber => "a gap or number is missing or malformed",
+        })
+    }
+}
+
+impl Error for HeaderFault {}
+
+impl From<HeaderFault> for Refusal {
+    ghost from_gives = { λ fault refusal. number_of refusal ≡ fault_number fault };
+
+    fn from(fault: HeaderFault) -> Refusal {
+        match fault {
+            HeaderFault::Letters => Refusal::Letters,
+            HeaderFault::GapOrNumber => Refusal::GapOrNumber,
+        }
+    }
 }
 
 // How far skipping blanks and comments came.
 #[derive(Clone, Copy)]
-pub enum Skip {
+enum Skip {
     // To the first byte after them.
     Past(Cursor),
     // To a comment, where the turns were used up.
     Paused(Cursor),
-    // To the end of the file, in a comment.
-    Unended,
 }
 
-// A header, with the cursor at the first byte of the raster, or what is wrong.
-#[derive(Clone, Copy)]
-pub enum Header {
-    Sound {
-        width: u32,
-        height: u32,
-        greatest: u32,
-        raster: Cursor,
-    },
-    Faulty(HeaderFault),
+// A header, with the cursor at the first byte of the raster.
+#[derive(Clone, Copy, Debug, PartialEq, Eq)]
+pub struct Header {
+    pub width: u32,
+    pub height: u32,
+    pub greatest: u32,
+    pub raster: Cursor,
 }
 
+#[tactic(auto, unfolding(crate::specs::Grammar::line_end))]
 fn is_line_end(b: u8) -> bool
     ensures { result ≡ line_end b }
 {
     b == b'\r' || b == b'\n'
 }
 
+#[tactic(auto, unfolding(crate::specs::Grammar::blank, crate::specs::Grammar::line_end))]
 fn is_blank(b: u8) -> bool
     ensures { result ≡ blank b }
 {
-    if b == b' ' {
-        return true;
-    }
-    if b == b'\t' {
-        return true;
-    }
-    is_line_end(b)
+    b == b' ' || b == b'\t' || is_line_end(b)
 }
 
-fn is_digit(b: u8) -> bool
-    ensures { result ≡ is_digit b }
+// How many bytes at the front pass the test.
+fn front_length<F: Fn(u8) -> bool>(bytes: &[u8], test: F) -> usize
+    requires { F.IsAlwaysCallable test }
+    ensures within { result ≤ length bytes.now }
+    ensures counted { (p : ℕ → Bool) → Computes (F.post test) p → result ≡ front p bytes.now }
 {
-    b'0' <= b && b <= b'9'
-}
-
-// The place of the first byte from `at` on that is no blank, or the file's length.
-fn blanks_end(file: &[u8], at: usize) -> usize
-    requires { at ≤ length file.now }
-    ensures { result ≡ at + front blank (drop at file.now) }
-{
-    let mut i = at;
-    while i < file.len() {
-        if !is_blank(file[i]) {
+    for (i, b) in bytes.iter().enumerate() {
+        if !test(*b) {
             return i;
         }
-        i += 1;
     }
-    i
+    bytes.len()
 }
 
-// The place of the first CR or LF from `at` on, or the file's length.
-fn comment_end(file: &[u8], at: usize) -> usize
-    requires { at ≤ length file.now }
-    ensures { result ≡ at + front in_comment (drop at file.now) }
+// The number that one to five digits spell.
+fn digits_value(digits: &[u8]) -> u32
+    requires { IsNumber digits.now }
+    ensures { result ≡ digits_value 0 digits.now }
 {
-    let mut i = at;
-    while i < file.len() {
-        if is_line_end(file[i]) {
-            return i;
-        }
-        i += 1;
-    }
-    i
-}
-
-// The place of the first byte from `at` on that is no digit, or the file's length.
-fn digits_end(file: &[u8], at: usize) -> usize
-    requires { at ≤ length file.now }
-    ensures { result ≡ at + front is_digit (drop at file.now) }
-{
-    let mut i = at;
-    while i < file.len() {
-        if !is_digit(file[i]) {
-            return i;
-        }
-        i += 1;
-    }
-    i
-}
-
-// The number that the digits from `at` to `end` spell.
-fn digits_value(file: &[u8], at: usize, end: usize) -> u32
-    requires { Digits file.now at end }
-    ensures { result ≡ digits_value 0 (slice at end file.now) }
-{
-    let mut i = at;
     let mut v: u32 = 0;
-    while i < end {
-        v = 10 * v + (file[i] - b'0') as u32;
-        i += 1;
+    for b in digits {
+        v = 10 * v + u32::from(*b - b'0');
     }
     v
-}
-
-// The number of a fault.
-pub fn fault_number(fault: HeaderFault) -> u32
-    ensures { result ≡ fault_number fault }
-{
-    match fault {
-        HeaderFault::Letters => 10,
-        HeaderFault::GapOrNumber => 11,
-    }
-}
-
-// The header's fault where a step did not find what belongs there.
-fn fault_of(step: HeaderStep) -> HeaderFault
-    ensures { fault_number result ≡ step_fault step }
-{
-    match step {
-        HeaderStep::Faulty(fault) => fault,
-        HeaderStep::Number(_, _) => HeaderFault::GapOrNumber,
-        HeaderStep::Gap(_) => HeaderFault::GapOrNumber,
-    }
 }
 
 impl Cursor {
     // Skips blanks and, where a comment follows them, that comment and what is after it.
     #[cycle(skip_blanks_skip_comment)]
-    fn skip_blanks(self, file: &[u8], turns: usize) -> Skip
+    fn skip_blanks(self, file: &[u8], turns: usize) -> Result<Skip, HeaderFault>
         requires { self.at ≤ length file.now }
         ensures { Skipped file.now self.at turns (mix (drop self.at file.now)) result }
     {
-        let at = blanks_end(file, self.at);
-        if file.len() <= at {
-            return Skip::Past(Cursor { at });
-        }
-        if file[at] != b'#' {
-            return Skip::Past(Cursor { at });
+        let at = self.at + front_length(&file[self.at..], |b| is_blank(b));
+        if at == file.len() || file[at] != b'#' {
+            return Ok(Skip::Past(Cursor { at }));
         }
         if turns == 0 {
-            return Skip::Paused(Cursor { at });
+            return Ok(Skip::Paused(Cursor { at }));
         }
         Cursor { at: at + 1 }.skip_comment(file, turns - 1)
     }
 
     // Skips what is left of a comment, and the blanks and comments after it.
     #[cycle(skip_blanks_skip_comment)]
-    fn skip_comment(self, file: &[u8], turns: usize) -> Skip
+    fn skip_comment(self, file: &[u8], turns: usize) -> Result<Skip, HeaderFault>
         requires { self.at ≤ length file.now }
         ensures { Skipped file.now self.at turns (comment (drop self.at file.now)) result }
     {
-        let at = comment_end(file, self.at);
-        if file.len() <= at {
-            return Skip::Unended;
+        let at = self.at + front_length(&file[self.at..], |b| !is_line_end(b));
+        if at == file.len() {
+            return Err(HeaderFault::GapOrNumber);
         }
         Cursor { at: at + 1 }.skip_blanks(file, turns)
     }
 
     // Any mix of blanks and comments, however long.
-    fn mix(self, file: &[u8]) -> HeaderStep
+    fn mix(self, file: &[u8]) -> Result<Cursor, HeaderFault>
         requires { self.at ≤ length file.now }
-        ensures { Stepped file.now (mix (drop self.at file.now)) result }
+        ensures { GapStep file.now (mix (drop self.at file.now)) result }
     {
-        let mut at = self.at;
+        let mut from = self;
         loop {
-            let skip = Cursor { at }.skip_blanks(file, TURNS);
-            match skip {
-                Skip::Past(end) => return HeaderStep::Gap(end),
-                Skip::Paused(next) => at = next.at,
-                Skip::Unended => return HeaderStep::Faulty(HeaderFault::GapOrNumber),
+            match from.skip_blanks(file, TURNS)? {
+                Skip::Past(end) => return Ok(end),
+                Skip::Paused(next) => from = next,
             }
         }
     }
 
     // One blank.
-    fn blank(self, file: &[u8]) -> HeaderStep
-        ensures { Stepped file.now (one_blank (drop self.at file.now)) result }
+    fn blank(self, file: &[u8]) -> Result<Cursor, HeaderFault>
+        ensures { GapStep file.now (one_blank (drop self.at file.now)) result }
     {
-        let at = self.at;
-        if file.len() <= at {
-            return HeaderStep::Faulty(HeaderFault::GapOrNumber);
+        match file.get(self.at) {
+            Some(b) if is_blank(*b) => Ok(Cursor { at: self.at + 1 }),
+            _ => Err(HeaderFault::GapOrNumber),
         }
-        if !is_blank(file[at]) {
-            return HeaderStep::Faulty(HeaderFault::GapOrNumber);
-        }
-        HeaderStep::Gap(Cursor { at: at + 1 })
     }
 
     // A blank, and then any mix of blanks and comments.
-    fn gap(self, file: &[u8]) -> HeaderStep
-        ensures { Stepped file.now (gap (drop self.at file.now)) result }
+    fn gap(self, file: &[u8]) -> Result<Cursor, HeaderFault>
+        ensures { GapStep file.now (gap (drop self.at file.now)) result }
     {
-        let first = self.blank(file);
-        let HeaderStep::Gap(next) = first else {
-            return first;
-        };
-        next.mix(file)
+        self.blank(file)?.mix(file)
     }
 
     // A number of one to five digits.
-    fn number(self, file: &[u8]) -> HeaderStep
-        ensures { Stepped file.now (number (drop self.at file.now)) result }
+    fn number(self, file: &[u8]) -> Result<(u32, Cursor), HeaderFault>
+        ensures { NumberStep file.now (number (drop self.at file.now)) result }
     {
-        let at = self.at;
-        if file.len() <= at {
-            return HeaderStep::Faulty(HeaderFault::GapOrNumber);
+        let Some(rest) = file.get(self.at..) else {
+            return Err(HeaderFault::GapOrNumber);
+        };
+        let n = front_length(rest, |b| b.is_ascii_digit());
+        if n < 1 || MAX_DIGITS < n {
+            return Err(HeaderFault::GapOrNumber);
         }
-        let end = digits_end(file, at);
-        if end == at {
-            return HeaderStep::Faulty(HeaderFault::GapOrNumber);
-        }
-        if 5 < end - at {
-            return HeaderStep::Faulty(HeaderFault::GapOrNumber);
-        }
-        HeaderStep::Number(digits_value(file, at, end), Cursor { at: end })
+        Ok((digits_value(&rest[..n]), Cursor { at: self.at + n }))
     }
 
     // "P5" and the gap after it.
-    fn opening(self, file: &[u8]) -> HeaderStep
-        ensures { Stepped file.now (opening (drop self.at file.now)) result }
+    fn opening(self, file: &[u8]) -> Result<Cursor, HeaderFault>
+        ensures { GapStep file.now (opening (drop self.at file.now)) result }
     {
-        let at = self.at;
-        if file.len() <= at {
-            return HeaderStep::Faulty(HeaderFault::Letters);
+        match file.get(self.at..) {
+            Some(rest) if rest.starts_with(b"P5") => Cursor { at: self.at + 2 }.gap(file),
+            _ => Err(HeaderFault::Letters),
         }
-        if file[at] != b'P' {
-            return HeaderStep::Faulty(HeaderFault::Letters);
-        }
-        let next = at + 1;
-        if file.len() <= next {
-            return HeaderStep::Faulty(HeaderFault::Letters);
-        }
-        if file[next] != b'5' {
-            return HeaderStep::Faulty(HeaderFault::Letters);
-        }
-        Cursor { at: next + 1 }.gap(file)
     }
 
     // The header that begins here.
-    fn read_header(self, file: &[u8]) -> Header
+    fn read_header(self, file: &[u8]) -> Result<Header, HeaderFault>
         ensures result_value { header_of file.now result ≡ header (drop self.at file.now) }
         ensures raster_within { RasterWithin file.now result }
     {
-        let s1 = self.opening(file);
-        let HeaderStep::Gap(c1) = s1 else {
-            return Header::Faulty(fault_of(s1));
-        };
-        let s2 = c1.number(file);
-        let HeaderStep::Number(width, c2) = s2 else {
-            return Header::Faulty(fault_of(s2));
-        };
-        let s3 = c2.gap(file);
-        let HeaderStep::Gap(c3) = s3 else {
-            return Header::Faulty(fault_of(s3));
-        };
-        let s4 = c3.number(file);
-        let HeaderStep::Number(height, c4) = s4 else {
-            return Header::Faulty(fault_of(s4));
-        };
-        let s5 = c4.gap(file);
-        let HeaderStep::Gap(c5) = s5 else {
-            return Header::Faulty(fault_of(s5));
-        };
-        let s6 = c5.number(file);
-        let HeaderStep::Number(greatest, c6) = s6 else {
-            return Header::Faulty(fault_of(s6));
-        };
-        let s7 = c6.blank(file);
-        let HeaderStep::Gap(raster) = s7 else {
-            return Header::Faulty(fault_of(s7));
-        };
-        Header::Sound {
+        let c1 = self.opening(file)?;
+        let (width, c2) = c1.number(file)?;
+        let c3 = c2.gap(file)?;
+        let (height, c4) = c3.number(file)?;
+        let c5 = c4.gap(file)?;
+        let (greatest, c6) = c5.number(file)?;
+        let raster = c6.blank(file)?;
+        Ok(Header {
             width,
             height,
             greatest,
             raster,
-        }
+        })
     }
 }
 
 // The header that begins at place `at` of a file. No header begins beyond the file's end: that is a fault of the letters.
-pub fn header_at(file: &[u8], at: usize) -> Header
+pub fn header_at(file: &[u8], at: usize) -> Result<Header, HeaderFault>
     ensures result_value { header_of file.now result ≡ header (drop at file.now) }
     ensures raster_within { RasterWithin file.now result }
 {

@@ -7,21 +7,26 @@ use native.Mathlib.Omega.{arith}
 use borrow.Author.Tests.{ne_eqb}
 use lib.ListN.{drop, length, length-append, length-drop, take}
 use lib.Seq.{drop_at, drop-drop, take_at}
+use Rattle.std.specs.Result.{IsErrAnd}
+use Rattle.std.proofs.Common.{Result}
+use Rattle.std.proofs.lemmas.Result.{err_from_is_err_and}
+use Rattle.refusals.specs.Numbers.{number_of}
+use Rattle.refusals.specs.declared.Refusal.{Refusal}
+use Rattle.refusals.proofs.Numbers.{number_nonzero}
 use Rattle.meaning.specs.Answers.{any_above, refuse}
 use Rattle.meaning.specs.Plate.{grid_fits, max_pixels}
 use Rattle.theory_connectivity.proofs.Sizes.{grid_sizes}
 use Rattle.plate_refusals.proofs.Refusals.{decided, passed}
 use Rattle.pgm_header.specs.Grammar.{faulty, header, sound}
-use Rattle.pgm_header.specs.Steps.{RasterWithin, fault_number, header_of}
-use Rattle.pgm_header.specs.declared.Cursor.{Cursor}
-use Rattle.pgm_header.specs.declared.Header.{Header}
-use Rattle.pgm_header.specs.declared.Header.TheVariants.{Faulty, Sound}
+use Rattle.pgm_header.specs.Steps.{fault_number}
 use Rattle.pgm_header.specs.declared.HeaderFault.{HeaderFault}
 use Rattle.pgm.specs.File.{greys_of, raster_bytes, short_refusal}
 use Rattle.pgm.proofs.Raster.{bytes_least}
 use Rattle.pgm.proofs.Readable.{Whole, short_chain, short_none}
-use Rattle.pgm_roll.specs.Roll.{FirstPlate, Image, after_header, fault, first_plate, pixels, place_of, plate_at, plate_then, raster_fault, refused_at}
+use Rattle.pgm_roll.specs.Roll.{FirstPlate, Image, after_header, fault, first_plate, pixels, place_answer, place_of, plate_at}
+use Rattle.pgm_roll.specs.Roll.{plate_then, raster_fault, refused_at}
 use Rattle.pgm_roll.specs.Scan.{Stands}
+use Rattle.pgm_roll.specs.declared.FoundPlate.{FoundPlate}
 use Rattle.pgm_roll.specs.declared.PlateAt.{PlateAt}
 use Rattle.pgm_roll.proofs.Plates.{Found, first_positive, found}
 
@@ -57,9 +62,14 @@ module _ (file : List ℕ) (at w h M : ℕ) (within : at ≤ length file) where
     unfolding raster_fault
     at_short x e = e ∙ at_refused (decided (short_chain w h M (length rest)) short_is x _) x
 
-    module _ (z : n ≡ 0) where
+  pub short_at : (r : Result FoundPlate Refusal) (e : Refusal) → IsErrAnd r (λ y. y ≡ e) → number_of e ≡ short_refusal w h M (length file - at) 0
+      → place_answer r ≡ answer
+  short_at r e l is = let y = err_from_is_err_and r l in rw (y.1, y.2) (at_short is (number_nonzero e) refl)
+
+  module _ (is : 0 ≡ short_refusal w h M (length file - at) 0) where
+    module _ where
       whole : Whole w h M (length rest)
-      whole = (short_none w h M (length rest) 0 (sym short_is ∙ z)).0
+      whole = (short_none w h M (length rest) 0 (sym (short_is is))).0
 
       pub whole_sizes : grid_fits w h ≡ true
       whole_sizes = whole.sizes
@@ -74,7 +84,7 @@ module _ (file : List ℕ) (at w h M : ℕ) (within : at ≤ length file) where
 
         fault_is : raster_fault w h M rest ≡ refuse b 28 0
         unfolding raster_fault
-        fault_is = passed (short_chain w h M (length rest)) short_is z _ ∙ rw (← above_is)
+        fault_is = passed (short_chain w h M (length rest)) (short_is is) refl _ ∙ rw (← above_is)
 
         pub at_above : {r : PlateAt} → b ≡ true → r ≡ refused_at 28 → r ≡ answer
         at_above t e = e ∙ at_refused (sym (fault_is ∙ rw t)) (λ x. omega (arith, x))
@@ -84,22 +94,16 @@ module _ (file : List ℕ) (at w h M : ℕ) (within : at ≤ length file) where
 
 -- ---- after the header, sound or faulty
 
-module _ (file : List ℕ) (at : ℕ) {g : Header} (e : header_of file g ≡ header (drop at file)) where
-  pub at_faulty : {f : HeaderFault} {n : ℕ} {r : PlateAt} → g ≡ Faulty f → n ≡ fault_number f → r ≡ refused_at n → r ≡ plate_at file at
+module _ (file : List ℕ) (at : ℕ) where
+  pub at_faulty : (f : HeaderFault) (r : Result FoundPlate Refusal) → IsErrAnd r (λ y. number_of y ≡ fault_number f)
+      → faulty (fault_number f) ≡ header (drop at file) → place_answer r ≡ plate_at file at
   unfolding plate_at first_plate
-  at_faulty {f} k i j =
-      let p : faulty (fault_number f) ≡ header (drop at file) = rw k at e in
-      j ∙ ap refused_at i ∙ rw (← p)
+  at_faulty f r l p = let y = err_from_is_err_and r l in rw (y.1, y.2, ← p)
 
-  module _ {w h M : ℕ} {c : Cursor} (k : g ≡ Sound w h M c) where
-    pub at_begins : RasterWithin file g → c.at ≤ length file
-    at_begins l = rw k at l
-
-    pub at_header : {r : PlateAt} → r ≡ place_of (length file) (after_header (sound w h M (drop c.at file))) → r ≡ plate_at file at
-    unfolding plate_at first_plate
-    at_header j =
-        let p : sound w h M (drop c.at file) ≡ header (drop at file) = rw k at e in
-        j ∙ rw (← p)
+  pub at_header : (w h M c : ℕ) {r : PlateAt} → sound w h M (drop c file) ≡ header (drop at file)
+      → r ≡ place_of (length file) (after_header (sound w h M (drop c file))) → r ≡ plate_at file at
+  unfolding plate_at first_plate
+  at_header w h M c p j = j ∙ rw (← p)
 
 -- ---- a plate that was found from a place on
 
@@ -158,8 +162,12 @@ module _ (file : List ℕ) (at : ℕ) {after : List ℕ} {p : Image} (k : Found 
   pub end_far : at + (9 + pixels p) ≤ place.end
   end_far = omega (arith, end_is, k.head_long, bytes_least p.greatest (pixels p))
 
+-- it is within the grid
+pub stands_sizes : {file : List ℕ} {c : PlateAt} {p : Image} → Stands file c p → grid_fits c.width c.height ≡ true
+stands_sizes s = rw (s.width, s.height) s.sizes
+
 pub stands_few : {file : List ℕ} {c : PlateAt} {p : Image} → Stands file c p → c.width * c.height ≤ max_pixels
-stands_few s = rw (s.width, s.height) (grid_sizes _ _ s.sizes).few_pixels
+stands_few s = (grid_sizes _ _ (stands_sizes s)).few_pixels
 
 -- ---- what is answered of the place
 

@@ -3,14 +3,24 @@ use mathlib.Core.Path.{◌≡◌, refl, sym, ap, ◌∙◌}
 use mathlib.Core.List.{List}
 use Prim.Native.Nat.{ℕ, ◌*◌, ◌≤◌, ◌<◌}
 use native.Mathlib.Omega.{arith}
-use borrow.Author.Tests.{le-leb, le-ltb, lt-leb, lt-ltb, ne_eqb}
+use borrow.Author.Tests.{le-leb, lt-leb, ne_eqb}
 use lib.ListN.{length}
-use Rattle.meaning.specs.Answers.{out_after, over}
-use Rattle.pgm.specs.File.{refused_read}
+use Rattle.std.specs.Result.{IsErrAnd}
+use Rattle.std.proofs.Common.{Some, None, Result, Ok, Err}
+use Rattle.std.proofs.lemmas.Result.{err_from_is_err_and}
+use Rattle.refusals.specs.Numbers.{number_of}
+use Rattle.refusals.specs.declared.Refusal.{Refusal}
+use Rattle.refusals.specs.declared.Refusal.TheVariants.{PlateNumber}
+use Rattle.refusals.proofs.Numbers.{number_nonzero}
+use Rattle.plate_refusals.proofs.Refusals.{out_none}
+use Rattle.meaning.specs.Answers.{out_after, out_refusal, over}
+use Rattle.pgm.specs.File.{read_answer, refused_read}
+use Rattle.pgm.specs.declared.PgmHead.{PgmHead}
 use Rattle.pgm.specs.declared.PgmRead.{PgmRead}
 use Rattle.pgm.proofs.Reading.{refusal_is}
-use Rattle.pgm_roll.specs.Roll.{Image, Roll, count_of, number_refusal, numbered, pixels, plate_read, plates, plates_of, refused, roll}
+use Rattle.pgm_roll.specs.Roll.{Image, Roll, count_of, number_refusal, numbered, pixels, place_answer, plate_read, plates, plates_of, refused, roll}
 use Rattle.pgm_roll.specs.Scan.{Scanned, Stands, greys_at}
+use Rattle.pgm_roll.specs.declared.FoundPlate.{FoundPlate}
 use Rattle.pgm_roll.specs.declared.RollCount.{RollCount}
 use Rattle.pgm_roll.specs.declared.RollScan.{RollScan}
 
@@ -20,63 +30,73 @@ Promised r number out a after =
     (a ≡ plate_read r number (length out)) × (after ≡ out_after (plate_read r number (length out)).refusal (numbered r number).greys out)
 
 module _ (r : Roll) (number : ℕ) (out : List ℕ) where
-  refuses : {n : ℕ} {a : PgmRead} → number_refusal r number (length out) ≡ n → (n ≡ 0 → ⊥) → a ≡ refused_read n → Promised r number out a out
-  refuses {n} e x j =
+  refuses : (e : Refusal) → number_refusal r number (length out) ≡ number_of e → Promised r number out (refused_read (number_of e)) out
+  refuses e is =
       let p = numbered r number in
-      (j ∙ rw (e, ne_eqb n 0 x), rw (e, refusal_is n p.width p.height p.greatest, ne_eqb n 0 x))
+      let ne = ne_eqb (number_of e) 0 (number_nonzero e) in
+      (rw (is, ne), rw (is, refusal_is (number_of e) p.width p.height p.greatest, ne))
 
   reads : {after : List ℕ} → number_refusal r number (length out) ≡ 0 → after ≡ over (numbered r number).greys out
       → let p = numbered r number in
       Promised r number out (record { refusal = 0; width = p.width; height = p.height; greatest = p.greatest }) after
   reads e j = (rw e, j ∙ rw e)
 
-module _ (file : List ℕ) (number : ℕ) (out : List ℕ) {r : RollScan} (k : Scanned file number r) where
+module _ (file : List ℕ) (number : ℕ) (out : List ℕ) where
+  -- what is left by a refusal that is handed on
+  pub handed_on : (a : Result PgmHead Refusal) (e : Refusal) → IsErrAnd a (λ y. y ≡ e) → Promised (roll file) number out (read_answer (Err e)) out
+      → Promised (roll file) number out (read_answer a) out
+  handed_on a e l p = let y = err_from_is_err_and a l in rw (y.1, y.2) p
+
   -- ---- the roll is refused
 
-  by-roll : (g : Roll) → roll file ≡ g → (r.refusal ≡ 0 → ⊥) → number_refusal (roll file) number (length out) ≡ r.refusal
-  by-roll (plates ps) e x = absurd (x (ap (λ (c : RollCount). c.refusal) k.counted ∙ rw e))
-  by-roll (refused n) e x = rw e (sym (ap (λ (c : RollCount). c.refusal) k.counted ∙ rw e))
+  module _ (e : Refusal) (k : Scanned file number (Err e)) where
+    by-roll : (g : Roll) → roll file ≡ g → number_refusal (roll file) number (length out) ≡ number_of e
+    by-roll (plates ps) f = absurd (number_nonzero e (ap (λ (c : RollCount). c.refusal) k.counted ∙ rw f))
+    by-roll (refused n) f = rw f (sym (ap (λ (c : RollCount). c.refusal) k.counted ∙ rw f))
 
-  pub scan_refused : {a : PgmRead} → (r.refusal ≡ 0 → ⊥) → a ≡ refused_read r.refusal → Promised (roll file) number out a out
-  scan_refused x j = refuses (roll file) number out (by-roll (roll file) refl x) x j
+    pub scan_refused : Promised (roll file) number out (read_answer (Err e)) out
+    scan_refused = refuses (roll file) number out e (by-roll (roll file) refl)
 
   -- ---- it is sound
 
-  module _ (z : r.refusal ≡ 0) where
+  module _ {s : RollScan} (k : Scanned file number (Ok s)) where
     abbrev all : List Image
     all = plates_of (roll file)
 
-    count_is : r.count ≡ length all
-    count_is = ap (λ (c : RollCount). c.count) (k.counted ∙ ap count_of (k.sound z))
+    count_is : s.count ≡ length all
+    count_is = ap (λ (c : RollCount). c.count) (k.counted ∙ ap count_of k.sound)
 
     number_is : number_refusal (roll file) number (length out) ≡ number_refusal (plates all) number (length out)
-    number_is = ap (λ (g : Roll). number_refusal g number (length out)) (k.sound z)
+    number_is = ap (λ (g : Roll). number_refusal g number (length out)) k.sound
 
-    pub scan_beyond : {a : PgmRead} → r.count ≤ number → a ≡ refused_read 25 → Promised (roll file) number out a out
-    scan_beyond l j =
-        refuses (roll file) number out (number_is ∙ rw (le-leb (length all) number (omega (arith, count_is)))) (λ x. omega (arith, x)) j
+    pub scan_beyond : s.chosen ≡ None → Promised (roll file) number out (read_answer (Err PlateNumber)) out
+    scan_beyond e =
+        let none : s.count ≤ number = rw e at k.found in
+        refuses (roll file) number out PlateNumber (number_is ∙ rw (le-leb (length all) number (omega (arith, count_is))))
 
-    module _ (l : number < r.count) where
-      pub there : Stands file r.chosen (numbered (roll file) number)
-      there = k.found l
+    module _ {c : FoundPlate} (e : s.chosen ≡ Some c) where
+      one : (number < s.count) × Stands file (place_answer (Ok c)) (numbered (roll file) number)
+      one = rw e at k.found
 
-      pub scan_short : {a : PgmRead} → length out < r.chosen.width * r.chosen.height → a ≡ refused_read 5 → Promised (roll file) number out a out
-      scan_short h j =
-          let h' : length out < pixels (numbered (roll file) number) = rw (there.width, there.height) at h in
-          refuses (roll file) number out (number_is ∙ rw (lt-leb (length all) number (omega (arith, count_is)), lt-ltb _ _ h')) (λ x. omega (arith, x)) j
+      pub there : Stands file (place_answer (Ok c)) (numbered (roll file) number)
+      there = one.1
 
-      module _ (h : r.chosen.width * r.chosen.height ≤ length out) where
-        fits : pixels (numbered (roll file) number) ≤ length out
-        fits = rw (there.width, there.height) at h
+      last : number_refusal (roll file) number (length out) ≡ out_refusal (c.head.width * c.head.height) (length out) 0
+      last = number_is ∙ rw (lt-leb (length all) number (omega (arith, one.0, count_is)), there.width, there.height)
 
-        pub scan_fits : length (greys_at file r.chosen) ≤ length out
-        scan_fits = omega (arith, ap length there.greys, there.long, fits)
+      pub scan_short : (r : Refusal) → number_of r ≡ out_refusal (c.head.width * c.head.height) (length out) 0
+          → Promised (roll file) number out (read_answer (Err r)) out
+      scan_short r is = refuses (roll file) number out r (last ∙ sym is)
 
-        pub scan_read : {after : List ℕ} → after ≡ over (greys_at file r.chosen) out
-            → let c = r.chosen in
-            Promised (roll file) number out (record { refusal = 0; width = c.width; height = c.height; greatest = c.greatest }) after
+      module _ (is : 0 ≡ out_refusal (c.head.width * c.head.height) (length out) 0) where
+        pub scan_fits : length (greys_at file (place_answer (Ok c))) ≤ length out
+        scan_fits =
+            let room = (out_none (c.head.width * c.head.height) (length out) 0 (sym is)).0 in
+            let size : c.head.width * c.head.height ≡ pixels (numbered (roll file) number) = rw (there.width, there.height) in
+            omega (arith, ap length there.greys, there.long, room, size)
+
+        pub scan_read : {after : List ℕ} → after ≡ over (greys_at file (place_answer (Ok c))) out
+            → Promised (roll file) number out (read_answer (Ok c.head)) after
         scan_read j =
             rw (there.width, there.height, there.greatest)
-            (reads (roll file) number out
-            (number_is ∙ rw (lt-leb (length all) number (omega (arith, count_is)), le-ltb _ _ fits))
-            (j ∙ ap (λ (f : List ℕ). over f out) there.greys))
+            (reads (roll file) number out (last ∙ sym is) (j ∙ ap (λ (f : List ℕ). over f out) there.greys))

@@ -1,11 +1,14 @@
 -- A roll, plate files one after the other (SPECIFICATION 5), and what the operations on rolls answer (9). w: width, h: height, M: greatest grey.
-use Rattle.std.specs.Prelude.{List, [], ◌∷◌, ◌++◌, ℕ, zero, suc, ◌-◌, ◌*◌, max, eqb, leb, drop, get_or, length, take}
+use Rattle.std.specs.Prelude.{List, [], ◌∷◌, ◌++◌, ℕ, zero, suc, ◌-◌, ◌*◌, max, eqb, leb, drop, get_or, length, take, Result, Ok, Err}
 use Rattle.meaning.specs.Sets.{pick}
 use Rattle.meaning.specs.Plate.{grid_fits, greatest_fits}
 use Rattle.meaning.specs.Answers.{any_above, greys_refusal, out_refusal, refuse}
 use Rattle.pgm_header.specs.Grammar.{ParsedHeader, sound, faulty, header}
 use Rattle.pgm.specs.File.{greys_of, raster_bytes, short_refusal, sizes_read}
 use Rattle.pgm.specs.declared.PgmRead.{PgmRead}
+use Rattle.refusals.specs.Numbers.{number_of}
+use Rattle.refusals.specs.declared.Refusal.{Refusal}
+use Rattle.pgm_roll.specs.declared.FoundPlate.{FoundPlate}
 use Rattle.pgm_roll.specs.declared.PlateAt.{PlateAt}
 use Rattle.pgm_roll.specs.declared.RollCount.{RollCount}
 
@@ -78,6 +81,11 @@ abbrev pub count_of : Roll → RollCount
 count_of (plates ps) = record { refusal = 0; count = length ps }
 count_of (refused n) = record { refusal = n; count = 0 }
 
+-- what an answer says: the count, or the refusal
+abbrev pub count_answer : Result ℕ Refusal → RollCount
+count_answer (Ok n) = record { refusal = 0; count = n }
+count_answer (Err r) = record { refusal = number_of r; count = 0 }
+
 -- its plates; none where it is refused
 abbrev pub plates_of : Roll → List Image
 plates_of (plates ps) = ps
@@ -105,6 +113,12 @@ plate_read r number room =
 
 abbrev pub refused_at : ℕ → PlateAt
 refused_at n = record { refusal = n; width = 0; height = 0; greatest = 0; raster = 0; end = 0 }
+
+-- what an answer says: where the plate stands, or the refusal
+abbrev pub place_answer : Result FoundPlate Refusal → PlateAt
+place_answer (Ok p) =
+    record { refusal = 0; width = p.head.width; height = p.head.height; greatest = p.head.greatest; raster = p.raster; end = p.end }
+place_answer (Err r) = refused_at (number_of r)
 
 -- a refusal, or its sizes, its greatest grey and the places where its raster begins and ends in a file of so many bytes
 abbrev pub place_of : ℕ → FirstPlate → PlateAt

@@ -4,10 +4,11 @@ use mathlib.Core.Bool.{true, and-eq-true_iff, ◌&&◌}
 use mathlib.Core.List.{List, ◌∷◌, ◌++◌, append_assoc, append-nil}
 use Prim.Native.Nat.{ℕ, ◌*◌, ◌≤◌}
 use native.Mathlib.Omega.{arith}
+use borrow.Author.Tests.{le-ltb}
 use lib.ListN.{drop, length, length-append, take}
 use lib.Seq.{take_at}
 use Rattle.meaning.specs.Plate.{Plate}
-use Rattle.meaning.specs.Answers.{out_after}
+use Rattle.meaning.specs.Answers.{out_after, out_refusal}
 use Rattle.theory_connectivity.proofs.Sizes.{greatest_range, grid_sizes}
 use Rattle.text_lines.specs.Lines.{decimal, further, line}
 use Rattle.text_lines.proofs.Decimals.{decimal_few}
@@ -85,7 +86,8 @@ module _ {k w h M : ℕ} {f : List ℕ} (plate : Plate k w h M f) where
       → let r = write_pgm w h M f (length out) in (r ≡ record { refusal = 0; length = length (pgm_of w h M f) })
       × (take r.length (out_after r.refusal (pgm_of w h M f) out) ≡ pgm_of w h M f)
   file_written out l =
-      let answer = sym (write_done w h M f out plate l refl refl).0 in
+      let fits : 0 ≡ out_refusal (length (pgm_of w h M f)) (length out) 0 = rw (le-ltb (length out) (length (pgm_of w h M f)) l) in
+      let answer = sym (write_done w h M f out plate refl fits refl).0 in
       (answer, rw answer (take_at (pgm_of w h M f) (drop (length (pgm_of w h M f)) out) (length (pgm_of w h M f)) refl))
 
   header_parsed : header (pgm_of w h M f) ≡ sound w h M raster

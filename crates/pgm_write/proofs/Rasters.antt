@@ -2,10 +2,14 @@
 use mathlib.Core.Path.{◌≡◌, refl, sym, ◌∙◌}
 use mathlib.Core.Bool.{false}
 use mathlib.Core.Logic.{inl, inr}
-use mathlib.Core.List.{List, [], ◌∷◌}
-use Prim.Native.Nat.{ℕ, zero, suc, ◌+◌, ◌*◌, ◌/◌, ◌%◌, ◌<◌}
+use mathlib.Core.List.{List, [], ◌∷◌, append_assoc}
+use Prim.Native.Nat.{ℕ, zero, suc, ◌+◌, ◌*◌, ◌-◌, ◌/◌, ◌%◌, ◌≤◌, ◌<◌}
+use native.Mathlib.Numerals.{add-one}
 use native.Mathlib.Omega.{arith}
-use lib.ListN.{length}
+use lib.ListN.{length, take, drop, set}
+use lib.Seq.{drop-drop, sets-eq}
+use borrow.Rule.Slice.PartMut.{put_mid}
+use Rattle.text_lines.proofs.Pieces.{Putting, putting_more}
 use Rattle.meaning.specs.Plate.{byte_greatest, grey}
 use Rattle.meaning.specs.Answers.{any_above}
 use Rattle.plate_refusals.proofs.Refusals.{above_none, none_above}
@@ -31,6 +35,26 @@ unfolding byte_pairs
 byte_pairs_low [] p l = absurd (omega arith)
 byte_pairs_low (g ∷ f) zero l = refl
 byte_pairs_low (g ∷ f) (suc p) l = let e : 2 * suc p + 1 ≡ suc (suc (2 * p + 1)) = omega arith in rw e (byte_pairs_low f p (omega arith))
+
+-- two bytes in a row are put as one after the other
+pair_put : (l : List ℕ) (i a b : ℕ) → i + 2 ≤ length l → put_mid i (i + 2 - i) l (a ∷ b ∷ []) ≡ set (set l i a) (i + 1) b
+pair_put l i a b h =
+    let two : i + 2 - i ≡ 2 = omega arith in
+    rw (two, add-one i, drop-drop) (sym (append_assoc (take i l) (a ∷ b ∷ []) (drop (i + 2) l)) ∙ sym (sets-eq (a ∷ b ∷ []) l i h))
+
+-- the two bytes of pixel p are put after those of the pixels before it
+pub putting_pair : (image : List ℕ) (p : ℕ) {text text' bytes : List ℕ} {at : ℕ} → Putting text at (byte_pairs image) text' (2 * p) → p < length image
+    → grey image p < 65536 → bytes ≡ grey image p / 256 % 256 ∷ grey image p % 256 ∷ []
+    → Putting text at (byte_pairs image) (put_mid (at + 2 * p) (at + 2 * p + 2 - (at + 2 * p)) text' bytes) (2 * (p + 1))
+putting_pair image p {text' = text'} {at = at} k l small e =
+    let long = byte_pairs-length image in
+    let high = putting_more k (omega (arith, long)) in
+    let both = putting_more high (omega (arith, long)) in
+    let next : 2 * p + 1 + 1 ≡ 2 * (p + 1) = omega arith in
+    let place : at + (2 * p + 1) ≡ at + 2 * p + 1 = omega arith in
+    let byte : grey image p / 256 % 256 ≡ grey image p / 256 = omega arith in
+    rw (e, byte, pair_put text' (at + 2 * p) (grey image p / 256) (grey image p % 256) (omega (arith, k.room, k.long, long)))
+    (rw (next, place, byte_pairs_high image p l, byte_pairs_low image p l) at both)
 
 -- ---- one byte a pixel, or two
 

@@ -1,11 +1,13 @@
 -- The plate file of a plate (SPECIFICATION 5), and what writing it answers (9). w: width, h: height, M: greatest grey, f: the plate.
-use Rattle.std.specs.Prelude.{List, [], ◌∷◌, ◌++◌, ℕ, ◌/◌, ◌%◌, eqb, length}
+use Rattle.std.specs.Prelude.{List, [], ◌∷◌, ◌++◌, ℕ, ◌/◌, ◌%◌, eqb, length, Result, Ok, Err}
 use Rattle.meaning.specs.Sets.{pick}
 use Rattle.meaning.specs.Plate.{grid_fits, greatest_fits}
 use Rattle.meaning.specs.Answers.{any_above, image_refusal, out_refusal}
 use Rattle.text_lines.specs.Lines.{decimal, line}
 use Rattle.pgm.specs.File.{pixel_bytes}
 use Rattle.pgm.specs.Text.{bytes}
+use Rattle.refusals.specs.Numbers.{number_of}
+use Rattle.refusals.specs.declared.Refusal.{Refusal}
 use Rattle.pgm_write.specs.declared.PgmWritten.{PgmWritten}
 
 -- the header, three lines: "P5"; width and height; the greatest grey
@@ -36,6 +38,11 @@ write_refusal w h M f room = image_refusal w h M f (out_refusal (length (pgm_of 
 -- a refusal: its number, and zeros elsewhere
 abbrev pub refused_write : ℕ → PgmWritten
 refused_write n = record { refusal = n; length = 0 }
+
+-- what an answer says: the file's length, or the refusal
+abbrev pub write_answer : Result ℕ Refusal → PgmWritten
+write_answer (Ok n) = record { refusal = 0; length = n }
+write_answer (Err r) = refused_write (number_of r)
 
 -- what writing the file answers: a refusal, or the file's length
 unfoldable pub write_pgm : ℕ → ℕ → ℕ → List ℕ → ℕ → PgmWritten

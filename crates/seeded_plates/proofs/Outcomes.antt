@@ -1,7 +1,12 @@
 -- What generating a test plate leaves: on a refusal, and with the plate written.
-use Rattle.std.proofs.Common.{◌≡◌, ℕ, ◌*◌, ◌≤◌, true, false, List, length, sym, ◌∙◌, le-ltb, ne_eqb}
+use Rattle.std.proofs.Common.{◌≡◌, ℕ, ◌*◌, true, false, List, length, sym, ◌∙◌, ne_eqb, Result}
 use Rattle.meaning.specs.Plate.{grid_fits}
 use Rattle.meaning.specs.Answers.{out_after, out_refusal, over}
+use Rattle.std.specs.Result.{IsErrAnd}
+use Rattle.std.proofs.lemmas.Result.{err_from_is_err_and}
+use Rattle.refusals.specs.Numbers.{number_of, refusal_of}
+use Rattle.refusals.specs.declared.Refusal.{Refusal}
+use Rattle.refusals.proofs.Numbers.{number_nonzero}
 use Rattle.seeded_plates.specs.Sequence.{greys_from, seeded_plate, seeded_refusal}
 
 module _ (seed w h : ℕ) (out : List ℕ) where
@@ -21,9 +26,13 @@ module _ (seed w h : ℕ) (out : List ℕ) where
     last = rw sizes
 
     -- 5
-    pub too_short : {n : ℕ} → n ≡ out_refusal (w * h) (length out) 0 → (n ≡ 0 → ⊥) → Promised n out
-    too_short {n} is ne = let e = is ∙ sym last in (e, rw (← e, ne_eqb n 0 ne))
+    pub too_short : (r : Result (Unit {0}) Refusal) (e : Refusal) → IsErrAnd r (λ y. y ≡ e) → number_of e ≡ out_refusal (w * h) (length out) 0
+        → Promised (refusal_of r) out
+    too_short r e l is =
+        let y = err_from_is_err_and r l in
+        let f = is ∙ sym last in
+        (rw (y.1, y.2) f, rw (← f, ne_eqb (number_of e) 0 (number_nonzero e)))
 
-    pub generated-whole : {after : List ℕ} → w * h ≤ length out → after ≡ over (greys_from (w * h) seed) out → Promised 0 after
+    pub generated-whole : {after : List ℕ} → 0 ≡ out_refusal (w * h) (length out) 0 → after ≡ over (greys_from (w * h) seed) out → Promised 0 after
     unfolding seeded_plate
-    generated-whole l d = let none : seeded_refusal w h (length out) ≡ 0 = last ∙ rw (le-ltb (length out) (w * h) l) in (sym none, rw none d)
+    generated-whole l d = let none : seeded_refusal w h (length out) ≡ 0 = last ∙ sym l in (sym none, rw none d)

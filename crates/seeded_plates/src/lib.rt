@@ -3,7 +3,10 @@
 
 ghost use Rattle.std.specs.Prelude.{◌≡◌, ◌*◌, ◌%◌, ◌^◌, ◌≤◌, length};
 ghost use Rattle.meaning.specs.Answers.{over, out_after};
+ghost use Rattle.refusals.specs.Numbers.{refusal_of};
 ghost use Rattle.seeded_plates.specs.Sequence.{next_state, top_eight, greys_from, seeded_plate, seeded_refusal};
+
+use refusals::Refusal;
 
 const MULTIPLIER: u32 = 1664525;
 
@@ -24,6 +27,7 @@ fn next_state(state: u32) -> u32
 }
 
 // The top eight bits of a state.
+#[tactic(auto, unfolding(crate::specs::Sequence::top_eight))]
 fn top_eight(state: u32) -> u16
     ensures { result ≡ top_eight state }
 {
@@ -36,29 +40,23 @@ fn write_greys(seed: u32, pixels: usize, out: &mut [u16])
     ensures { out.new ≡ over (greys_from pixels seed) out.old }
 {
     let mut state = seed;
-    let mut p: usize = 0;
-    while p < pixels {
-        let next = next_state(state);
-        out[p] = top_eight(next);
-        state = next;
-        p += 1;
+    for place in out[..pixels].iter_mut() {
+        state = next_state(state);
+        *place = top_eight(state);
     }
 }
 
 // Writes the test plate of a seed, whose greatest grey is 255, into the output. A refusal leaves the output as it was.
-pub fn seeded_plate(seed: u32, width: u32, height: u32, out: &mut [u16]) -> u32
-    ensures value { result ≡ seeded_refusal width height (length out.old) }
+pub fn seeded_plate(seed: u32, width: u32, height: u32, out: &mut [u16]) -> Result<(), Refusal>
+    ensures value { refusal_of result ≡ seeded_refusal width height (length out.old) }
     ensures out_after { out.new ≡ out_after (seeded_refusal width height (length out.old))
         (seeded_plate seed width height) out.old }
 {
     if !plate_refusals::grid_fits(width, height) {
-        return 2;
+        return Err(Refusal::Grid);
     }
     let pixels = (width * height) as usize;
-    let refusal = plate_refusals::out_refusal(pixels, out.len());
-    if refusal != 0 {
-        return refusal;
-    }
+    plate_refusals::check_out(pixels, out.len())?;
     write_greys(seed, pixels, out);
-    0
+    Ok(())
 }

@@ -1,50 +1,48 @@
 -- `pgm_roll::roll_plate` meets its contract: the roll is refused, the number is not below the count, the output is short, or the plate is written.
-use native.Mathlib.Omega.{arith}
-use Rattle.pgm_roll.specs.Roll.{numbered, roll}
+use Rattle.pgm_roll.specs.Roll.{numbered, place_answer, roll}
 use Rattle.pgm_roll.specs.Scan.{Stands}
-use Rattle.pgm_roll.proofs.Places.{stands_few}
-use Rattle.pgm_roll.proofs.Reading.{scan_beyond, scan_fits, scan_read, scan_refused, scan_short, there}
+use Rattle.pgm_roll.proofs.Places.{stands_sizes}
+use Rattle.pgm_roll.proofs.Reading.{handed_on, scan_beyond, scan_fits, scan_read, scan_refused, scan_short, there}
+use Rattle.std.proofs.Common.{Ok}
 use Rattle.pgm_roll.proofs.roll_plate.Goals as goal
-use Rattle.pgm_roll.proofs.roll_plate.Goals.{Else-scan-number}
+use Rattle.pgm_roll.proofs.roll_plate.Goals.{In-Some}
 
 -- the plate that was looked for is in the roll
-stands : (c : Else-scan-number) → Stands c.args.file.now c.scan_roll-scan.result.chosen (numbered (roll c.args.file.now) c.args.number)
-stands c = there c.args.file.now c.args.number c.args.out.now c.scan_roll-scan.ensures c.if-scan-ne0.false c.if-scan-number.false
+stands : (c : In-Some) → Stands c.args.file.now (place_answer (Ok c.in-Some.plate)) (numbered (roll c.args.file.now) c.args.number)
+stands c = there c.args.file.now c.args.number c.args.out.now c.in_ok-scan.ensures c.in-Some.is
 
-pub returns-then-scan-ne0 : goal.returns-then-scan-ne0
-returns-then-scan-ne0 c =
-    let both = scan_refused c.args.file.now c.args.number c.args.out.now c.scan_roll-scan.ensures c.if-scan-ne0.true c.refused_read.ensures in
+pub returns-in_err-scan : goal.returns-in_err-scan
+returns-in_err-scan c =
+    let a = c.args in
+    let both = handed_on a.file.now a.number a.out.now _ _ c.from_residual.ensures.1
+    (scan_refused a.file.now a.number a.out.now _ c.in_err-scan.ensures) in
     record { value = both.0; out_after = both.1 }
 
-pub returns-then-scan-number : goal.returns-then-scan-number
-returns-then-scan-number c =
-    let both = scan_beyond c.args.file.now c.args.number c.args.out.now c.scan_roll-scan.ensures c.if-scan-ne0.false c.if-scan-number.true
-    c.refused_read-then-scan-number.ensures in
+pub returns-in_default : goal.returns-in_default
+returns-in_default c =
+    let both = scan_beyond c.args.file.now c.args.number c.args.out.now c.in_ok-scan.ensures c.in_default.is in
     record { value = both.0; out_after = both.1 }
 
-pub overflow_mul-plate : goal.overflow_mul-plate
-overflow_mul-plate c = omega (arith, stands_few (stands (goal.at.overflow_mul-plate c).Else-scan-number))
+pub pixels-requires : goal.pixels-requires
+pixels-requires c = stands_sizes (stands (goal.at.pixels-requires c).In-Some)
 
-pub overflow_cast-plate : goal.overflow_cast-plate
-overflow_cast-plate c = omega (arith, stands_few (stands (goal.at.overflow_cast-plate c).Else-scan-number))
-
-pub returns-then-out-plate : goal.returns-then-out-plate
-returns-then-out-plate c =
-    let both = scan_short c.args.file.now c.args.number c.args.out.now c.scan_roll-scan.ensures c.if-scan-ne0.false c.if-scan-number.false
-    c.if-out-plate.true
-    c.refused_read-then-out-plate.ensures in
+pub returns-in_err-check_out : goal.returns-in_err-check_out
+returns-in_err-check_out c =
+    let a = c.args in
+    let is = rw c.pixels.ensures at c.in_err-check_out.ensures in
+    let both = handed_on a.file.now a.number a.out.now _ _ c.from_residual-in_err-check_out.ensures.1
+    (scan_short a.file.now a.number a.out.now c.in_ok-scan.ensures c.in-Some.is _ is) in
     record { value = both.0; out_after = both.1 }
 
 pub slice_bounds-write_greys-count : goal.slice_bounds-write_greys-count
-slice_bounds-write_greys-count c = (stands (goal.at.slice_bounds-write_greys-count c).Else-scan-number).from
+slice_bounds-write_greys-count c = (stands (goal.at.slice_bounds-write_greys-count c).In-Some).from
 
 pub write_greys-requires : goal.write_greys-requires
 write_greys-requires c =
-    scan_fits c.args.file.now c.args.number c.args.out.now c.scan_roll-scan.ensures c.if-scan-ne0.false c.if-scan-number.false c.if-out-plate.false
+    scan_fits c.args.file.now c.args.number c.args.out.now c.in_ok-scan.ensures c.in-Some.is (rw c.pixels.ensures at c.in_ok-check_out.ensures)
 
 pub returns : goal.returns
 returns c =
-    let both = scan_read c.args.file.now c.args.number c.args.out.now c.scan_roll-scan.ensures c.if-scan-ne0.false c.if-scan-number.false
-    c.if-out-plate.false
-    c.write_greys.ensures in
+    let both = scan_read c.args.file.now c.args.number c.args.out.now c.in_ok-scan.ensures c.in-Some.is
+    (rw c.pixels.ensures at c.in_ok-check_out.ensures) c.write_greys.ensures in
     record { value = both.0; out_after = both.1 }

@@ -10,9 +10,12 @@ unfolding bytes header_lines
 returns c =
     let a = c.args in
     let first = end_line (begin c.put_word-letters.ensures) c.put_end-first.ensures in
-    let second = end_line (and-field (begin c.put_decimal-extent.ensures.put_text) a.height c.put_field-extents.ensures.put_text)
+    let width = rw c.from.ensures at c.put_decimal-extent.ensures.put_text in
+    let height = rw c.from-2.ensures at c.put_field-extents.ensures.put_text in
+    let greatest = rw c.from-3.ensures at c.put_decimal-third.ensures.put_text in
+    let second = end_line (and-field (begin width) a.head.height height)
     c.put_end-second.ensures in
-    let third = end_line (begin c.put_decimal-third.ensures.put_text) c.put_end.ensures in record {
+    let third = end_line (begin greatest) c.put_end.ensures in record {
       put_text = put_put first (put_put second third);
       upper_bound = omega (
         arith,

@@ -23,6 +23,6 @@ put_pairs-requires c =
     let e = raster_pairs c.args.greatest image c.pixel_bytes.ensures c.if-pixel_bytes-eq1.false in
     omega (arith, c.requires.image_in_bounds, ap length e, byte_pairs-length image)
 
-pub returns : goal.returns
-returns c =
+pub returns-else-pixel_bytes-eq1 : goal.returns-else-pixel_bytes-eq1
+returns-else-pixel_bytes-eq1 c =
     rw (raster_pairs c.args.greatest c.args.image.now c.pixel_bytes.ensures c.if-pixel_bytes-eq1.false) c.put_pairs.ensures

@@ -1,115 +1,68 @@
 -- `pgm_write::write_pgm` meets its contract: a refusal, or the header and then the raster.
-use mathlib.Core.Path.{◌≡◌, sym, ap, ◌∙◌}
-use mathlib.Core.List.{List}
-use Prim.Native.Nat.{ℕ, ◌+◌, ◌*◌, ◌≤◌}
+use mathlib.Core.Path.{◌≡◌, sym, ◌∙◌}
+use Prim.Native.Nat.{◌+◌}
 use native.Mathlib.Omega.{arith}
 use lib.ListN.{length, take}
 use Rattle.meaning.specs.Plate.{Plate}
-use Rattle.plate_refusals.proofs.Refusals.{above_none, taken_few}
 use Rattle.text_lines.specs.Lines.{PutText}
 use Rattle.text_lines.proofs.Pieces.{put_front, put_length, put_put}
-use Rattle.pgm.proofs.Raster.{bytes_most}
-use Rattle.pgm_write.specs.Writing.{header_lines, pgm_of, raster_of}
-use Rattle.pgm_write.proofs.Outcomes.{file_length, write_done, write_first, write_short, write_taken}
+use Rattle.plate_refusals.proofs.Refusals.{out_none}
+use Rattle.pgm_write.specs.Writing.{header_lines, pgm_of}
+use Rattle.pgm_write.proofs.Outcomes.{file_length, file_size, write_done, write_first, write_short, write_taken}
 use Rattle.pgm_write.proofs.Rasters.{raster_length}
 use Rattle.pgm_write.proofs.write_pgm.Goals as goal
-use Rattle.pgm_write.proofs.write_pgm.Goals.{After-pixel_bytes}
+use Rattle.pgm_write.proofs.write_pgm.Goals.{After-raster_bytes}
 
-abbrev image : (c : After-pixel_bytes) → List ℕ
-image c = c.args.image.now
+plate : (c : After-raster_bytes) → let h = c.args.head in Plate 4 h.width h.height h.greatest c.args.image.now
+plate c = write_taken _ _ _ _ c.args.out.now c.in_ok-check_image.ensures
 
-abbrev header : (c : After-pixel_bytes) → List ℕ
-header c = let a = c.args in header_lines a.width a.height a.greatest
-
-abbrev file : (c : After-pixel_bytes) → List ℕ
-file c = let a = c.args in pgm_of a.width a.height a.greatest (image c)
-
--- the length that is found
-abbrev size : (c : After-pixel_bytes) → ℕ
-size c = c.put_header-raster.result + c.pixel_bytes.result * length (image c)
-
-plate : (c : After-pixel_bytes) → let a = c.args in Plate 4 a.width a.height a.greatest (image c)
-plate c = let a = c.args in
-    write_taken a.width a.height a.greatest (image c) a.out.now c.image_refusal-refusal.ensures c.if-refusal-ne0.false
-
--- the header stands at the front of the array
-header_is : (c : After-pixel_bytes) → let p = c.put_header-raster in take p.result p.new.text ≡ header c
-header_is c = put_front c.put_header-raster.ensures.put_text
-
-header-long : (c : After-pixel_bytes) → c.put_header-raster.result ≡ length (header c)
+header-long : (c : After-raster_bytes) → let h = c.args.head in c.put_header-raster.result ≡ length (header_lines h.width h.height h.greatest)
 header-long c = omega (arith, c.put_header-raster.ensures.put_text.after)
 
-size_is : (c : After-pixel_bytes) → size c ≡ length (file c)
-size_is c = let a = c.args in
-    ap (λ (n : ℕ). n + c.pixel_bytes.result * length (image c)) (header-long c)
-    ∙ ap (λ (n : ℕ). length (header c) + n * length (image c)) c.pixel_bytes.ensures
-    ∙ sym (file_length a.width a.height a.greatest (image c))
+-- the header stands at the front of the array
+header_is : (c : After-raster_bytes) → let h = c.args.head in
+    take c.put_header-raster.result c.put_header-raster.new.text ≡ header_lines h.width h.height h.greatest
+header_is c = put_front c.put_header-raster.ensures.put_text
 
--- the raster has its length
-raster-size : (c : After-pixel_bytes) → c.pixel_bytes.result * length (image c) ≡ length (raster_of c.args.greatest (image c))
-raster-size c = ap (λ (n : ℕ). n * length (image c)) c.pixel_bytes.ensures ∙ sym (raster_length c.args.greatest (image c))
+-- the length that is found
+size_is : (c : After-raster_bytes) → let h = c.args.head in
+    c.put_header-raster.result + c.raster_bytes.result ≡ length (pgm_of h.width h.height h.greatest c.args.image.now)
+size_is c = file_size (plate c) (header-long c) c.raster_bytes.ensures
 
--- so nothing overflows
-raster-few : (c : After-pixel_bytes) → c.pixel_bytes.result * length (image c) ≤ 33554432
-raster-few c = let M = c.args.greatest in
-    omega (arith, raster-size c, raster_length M (image c), bytes_most M (length (image c)), taken_few (plate c))
-
-pub returns-then-refusal-ne0 : goal.returns-then-refusal-ne0
-returns-then-refusal-ne0 c =
-    let a = c.args in
-    let both = write_first a.width a.height a.greatest a.image.now a.out.now c.image_refusal-refusal.ensures c.if-refusal-ne0.true
-    c.refused_write.ensures in
+pub returns-in_err-check_image : goal.returns-in_err-check_image
+returns-in_err-check_image c =
+    let h = c.args.head in
+    let both = write_first h.width h.height h.greatest c.args.image.now c.args.out.now _ _ c.from_residual.ensures.1 c.in_err-check_image.ensures in
     record { value = both.0; out_after = both.1 }
 
-pub overflow_mul-length : goal.overflow_mul-length
-overflow_mul-length c = omega (arith, raster-few (goal.at.overflow_mul-length c).After-pixel_bytes)
-
-pub overflow_add-length : goal.overflow_add-length
-overflow_add-length c =
-    omega (arith, raster-few (goal.at.overflow_add-length c).After-pixel_bytes, c.put_header-raster.ensures.upper_bound)
-
-pub returns-then-out-length : goal.returns-then-out-length
-returns-then-out-length c =
-    let a = c.args in
-    let both = write_short a.width a.height a.greatest c.args.image.now a.out.now
-    (plate (goal.at.returns-then-out-length c).After-pixel_bytes)
-    (omega (arith, c.if-out-length.true, size_is (goal.at.returns-then-out-length c).After-pixel_bytes))
-    c.refused_write-then-out-length.ensures in
+pub returns-in_err-check_out : goal.returns-in_err-check_out
+returns-in_err-check_out c =
+    let h = c.args.head in
+    let found = (goal.at.returns-in_err-check_out c).After-raster_bytes in
+    let both = write_short h.width h.height h.greatest c.args.image.now c.args.out.now (plate found) (size_is found) _ _
+    c.from_residual-in_err-check_out.ensures.1 c.in_err-check_out.ensures in
     record { value = both.0; out_after = both.1 }
 
-pub slice_bounds-put_word-end : goal.slice_bounds-put_word-end
-slice_bounds-put_word-end c =
-    header-long (goal.at.slice_bounds-put_word-end c).After-pixel_bytes
-    ∙ sym (ap length (header_is (goal.at.slice_bounds-put_word-end c).After-pixel_bytes))
-
-pub put_word-requires : goal.put_word-requires
-put_word-requires c =
-    omega (
-      arith,
-      c.if-out-length.false,
-      header-long (goal.at.put_word-requires c).After-pixel_bytes,
-      ap length (header_is (goal.at.put_word-requires c).After-pixel_bytes),
-    )
-
-pub put_raster-requires : goal.put_raster-requires
-put_raster-requires c =
-    let room : length c.args.out.now ≡ length c.put_word.new.text = sym (put_length c.put_word.ensures) in
-    record {
-      image_in_bounds = omega (arith, raster-size (goal.at.put_raster-requires c).After-pixel_bytes, c.if-out-length.false, room);
-      image_value = above_none c.args.greatest c.args.image.now (plate (goal.at.put_raster-requires c).After-pixel_bytes).greys;
-    }
+pub put_raster-requires-clause-image_in_bounds : goal.put_raster-requires-clause-image_in_bounds
+put_raster-requires-clause-image_in_bounds c =
+    let h = c.args.head in
+    let found = (goal.at.put_raster-requires-clause-image_in_bounds c).After-raster_bytes in
+    let long = raster_length h.greatest c.args.image.now in
+    let room = (out_none _ _ 0 (sym c.in_ok-check_out.ensures)).0 in
+    omega (arith, size_is found, header-long found, file_length h.width h.height h.greatest c.args.image.now, long, room, put_length c.put_word.ensures)
 
 pub returns : goal.returns
 unfolding pgm_of
 returns c =
-    let a = c.args in
-    let front : PutText a.out.now 0 (header (goal.at.returns c).After-pixel_bytes) c.put_word.new.text c.put_header-raster.result =
+    let h = c.args.head in
+    let found = (goal.at.returns c).After-raster_bytes in
+    let room = (out_none _ _ 0 (sym c.in_ok-check_out.ensures)).0 in
+    let front : PutText c.args.out.now 0 (header_lines h.width h.height h.greatest) c.put_word.new.text c.put_header-raster.result =
     record {
-      after = omega (arith, header-long (goal.at.returns c).After-pixel_bytes);
-      room = omega (arith, c.if-out-length.false);
-      stored = c.put_word.ensures.stored ∙ rw (header_is (goal.at.returns c).After-pixel_bytes);
+      after = omega (arith, header-long found);
+      room = omega (arith, room);
+      stored = c.put_word.ensures.stored ∙ rw (header_is found);
     } in
     let whole = put_put front c.put_raster.ensures in
-    let both = write_done a.width a.height a.greatest c.args.image.now a.out.now (plate (goal.at.returns c).After-pixel_bytes)
-    (omega (arith, c.if-out-length.false, size_is (goal.at.returns c).After-pixel_bytes)) (size_is (goal.at.returns c).After-pixel_bytes) whole.stored in
+    let both = write_done h.width h.height h.greatest c.args.image.now c.args.out.now (plate found) (size_is found) c.in_ok-check_out.ensures whole.stored in
     record { value = both.0; out_after = both.1 }

@@ -1,21 +1,44 @@
 -- A number of one to five digits.
+use mathlib.Core.Path.{◌≡◌}
+use Prim.Native.Nat.{◌≤◌}
 use native.Mathlib.Omega.{arith}
+use lib.ListN.{length, drop}
+use Rattle.std.proofs.Common.{rules}
+use Rattle.pgm_header.specs.Grammar.{is_digit, front}
 use Rattle.pgm_header.specs.declared.HeaderFault.TheVariants.{GapOrNumber}
-use Rattle.pgm_header.proofs.Places.{faulted}
-use Rattle.pgm_header.proofs.Digits.{number_absent, number_empty, number_long, number_step}
+use Rattle.theory_lists.proofs.Lists.{take_rest}
+use Rattle.pgm_header.proofs.Digits.{number_stopped, number_absent, number_empty, number_long, number_digits, number_step}
 use Rattle.pgm_header.proofs.Cursor.number.Goals as goal
+use Rattle.pgm_header.proofs.Cursor.number.Goals.{After-front_length-n, then-n-lt1-via-then-n-lt1, then-n-lt1-via-else-n-lt1+then-n-gt-MAX_DIGITS}
 
-pub returns-then-file-at : goal.returns-then-file-at
-returns-then-file-at c = faulted GapOrNumber (number_absent _ _ c.if-file-at.true)
+there : (c : After-front_length-n) → c.in-Some.rest.now ≡ drop c.args.self.at c.args.file.now
+there c = rw (c.in-Some.ensures.lookup.0.2) (take_rest c.args.file.now c.args.self.at)
 
-pub returns-then-end-at : goal.returns-then-end-at
-returns-then-end-at c = faulted GapOrNumber (number_empty _ _ _ c.digits_end-end.ensures c.if-end-at.true)
+count : (c : After-front_length-n) → c.front_length-n.result ≡ front is_digit (drop c.args.self.at c.args.file.now)
+unfolding is_digit
+count c = rw (there c) at (c.front_length-n.ensures.counted is_digit (λ b r k. search rules))
 
-pub returns-then-end-at-gt5 : goal.returns-then-end-at-gt5
-returns-then-end-at-gt5 c = faulted GapOrNumber (number_long _ _ _ c.digits_end-end.ensures c.if-end-at-gt5.true)
+pub returns-in_default : goal.returns-in_default
+returns-in_default c =
+    let beyond : length c.args.file.now ≤ c.args.self.at = let h = c.in_default.ensures.lookup.0 in omega arith in
+    number_stopped GapOrNumber (number_absent _ _ beyond)
+
+pub returns-then-n-lt1 : goal.returns-then-n-lt1
+returns-then-n-lt1 c =
+    let is = count (goal.at.returns-then-n-lt1 c).After-front_length-n in
+    let s = c.args.file.now in
+    elim c.then-n-lt1.branch [
+      | then-n-lt1-via-then-n-lt1 w ↦ number_stopped GapOrNumber (number_empty s c.args.self.at is w.if-n-lt1.true)
+      | then-n-lt1-via-else-n-lt1+then-n-gt-MAX_DIGITS w ↦ number_stopped GapOrNumber (number_long s c.args.self.at is w.if-n-gt-MAX_DIGITS.true)
+    ]
+
+pub digits_value-requires : goal.digits_value-requires
+digits_value-requires c =
+    let e = (goal.at.digits_value-requires c).After-front_length-n in
+    rw (there e) (number_digits c.args.file.now c.args.self.at (count e) c.if-n-gt-MAX_DIGITS.false)
 
 pub returns : goal.returns
 returns c =
-    let within = c.if-file-at.false in
-    number_step _ _ _ c.digits_end-end.ensures (omega arith) c.if-end-at.false c.if-end-at-gt5.false
-    c.digits_value.ensures
+    let e = (goal.at.returns c).After-front_length-n in
+    let within : c.args.self.at ≤ length c.args.file.now = c.in-Some.ensures.lookup.0.0 in
+    number_step _ _ (count e) within (omega arith) (omega arith) (rw (there e) at c.digits_value.ensures)

@@ -1,21 +1,24 @@
 -- "P5" and the gap after it.
+use mathlib.Core.Path.{sym, ◌∙◌}
+use native.Mathlib.Omega.{arith}
+use Prim.Native.Nat.{◌<◌}
+use lib.ListN.{length}
 use Rattle.pgm_header.specs.declared.HeaderFault.TheVariants.{Letters}
-use Rattle.pgm_header.proofs.Places.{faulted, letters_absent, letters_other, letters_one, letters_second, letters_here}
+use Rattle.theory_lists.proofs.Lists.{take_rest}
+use Rattle.pgm_header.proofs.Places.{faulted, letters_absent, letters_other, letters_here}
 use Rattle.pgm_header.proofs.Cursor.opening.Goals as goal
 
-pub returns-then-file-at : goal.returns-then-file-at
-returns-then-file-at c = faulted Letters (letters_absent _ _ c.if-file-at.true)
+pub returns-in-Some : goal.returns-in-Some
+returns-in-Some c =
+    let e = rw (c.in-Some.ensures.lookup.0.2, take_rest c.args.file.now c.args.self.at) at c.starts_with.ensures.value in
+    rw (letters_here c.args.file.now c.args.self.at (sym e ∙ c.if-starts_with.true)) c.gap.ensures
 
-pub returns-then-file-at-ne80 : goal.returns-then-file-at-ne80
-returns-then-file-at-ne80 c = faulted Letters (letters_other _ _ c.if-file-at.false c.if-file-at-ne80.true)
+pub returns-in_default : goal.returns-in_default
+returns-in_default c =
+    let e = rw (c.in-Some.ensures.lookup.0.2, take_rest c.args.file.now c.args.self.at) at c.starts_with.ensures.value in
+    faulted Letters (letters_other c.args.file.now c.args.self.at (sym e ∙ c.if-starts_with.false))
 
-pub returns-then-file-next : goal.returns-then-file-next
-returns-then-file-next c = faulted Letters (letters_one _ _ c.if-file-at.false c.if-file-next.true)
-
-pub returns-then-file-next-ne53 : goal.returns-then-file-next-ne53
-returns-then-file-next-ne53 c = faulted Letters (letters_second _ _ c.if-file-next.false c.if-file-next-ne53.true c.if-file-at-ne80.false)
-
-pub returns : goal.returns
-returns c =
-    rw (letters_here _ _ c.if-file-next.false c.if-file-at-ne80.false c.if-file-next-ne53.false)
-    c.gap.ensures
+pub returns-in_default-2 : goal.returns-in_default-2
+returns-in_default-2 c =
+    let beyond : length c.args.file.now < c.args.self.at = let h = (rw c.in_default.is at c.get.ensures.lookup).0 in omega arith in
+    faulted Letters (letters_absent _ _ beyond)

@@ -1,98 +1,67 @@
 -- The header, step by step: what is left of it after each step that went on.
-use Rattle.pgm_header.specs.Grammar.{sound}
-use Rattle.pgm_header.proofs.Parsing.{
-  from_width,
-  from_gap₂,
-  from_height,
-  from_gap₃,
-  from_greatest,
-  from_blank,
-  header-from,
-  gap_on,
-  gap_off,
-  number_on,
-  number_off,
-  header_ends,
-}
+use mathlib.Core.Path.{◌≡◌, sym}
+use lib.ListN.{drop}
+use Rattle.pgm_header.specs.Grammar.{header, sound}
+use Rattle.pgm_header.proofs.Parsing.{from_width, from_gap₂, from_height, from_gap₃, from_greatest, from_blank, header-from}
+use Rattle.pgm_header.proofs.Parsing.{gap_on, gap_off, number_on, number_off}
 use Rattle.pgm_header.proofs.Cursor.read_header.Goals as goal
+use Rattle.pgm_header.proofs.Cursor.read_header.Goals.{In_ok-c1, In_ok-width, In_ok-c3, In_ok-height, In_ok-c5, In_ok-greatest}
 
-pub returns-in_default : goal.returns-in_default
-returns-in_default c =
-    record {
-      result_value = gap_off from_width (header-from _) c.opening-s1.ensures _ c.in_default.not-Gap c.fault_of.ensures;
-      raster_within = tt;
-    }
+at₁ : (c : In_ok-c1) → let s = c.args.file.now in header (drop c.args.self.at s) ≡ from_width (drop c.in_ok-c1.c1.at s)
+at₁ c = gap_on from_width (header-from _) c.in_ok-c1.ensures
 
-pub returns-in_default-s2 : goal.returns-in_default-s2
-returns-in_default-s2 c =
-    let e₁ = gap_on from_width (header-from _) c.opening-s1.ensures c.in-Gap.is in
-    record {
-      result_value = number_off from_gap₂ e₁ c.number-s2.ensures _ c.in_default-s2.not-Number c.fault_of-in_default-s2.ensures;
-      raster_within = tt;
-    }
+at₂ : (c : In_ok-width) → let s = c.args.file.now in header (drop c.args.self.at s) ≡ from_gap₂ c.in_ok-width.width (drop c.in_ok-width.c2.at s)
+at₂ c = number_on from_gap₂ (at₁ (goal.at.In_ok-width c).In_ok-c1) c.in_ok-width.ensures
 
-pub returns-in_default-s3 : goal.returns-in_default-s3
-returns-in_default-s3 c =
-    let e₁ = gap_on from_width (header-from _) c.opening-s1.ensures c.in-Gap.is in
-    let e₂ = number_on from_gap₂ e₁ c.number-s2.ensures c.in-Number.is in
-    record {
-      result_value = gap_off (from_height _) e₂ c.gap-s3.ensures _ c.in_default-s3.not-Gap c.fault_of-in_default-s3.ensures;
-      raster_within = tt;
-    }
+at₃ : (c : In_ok-c3) → let s = c.args.file.now in header (drop c.args.self.at s) ≡ from_height c.in_ok-width.width (drop c.in_ok-c3.c3.at s)
+at₃ c = gap_on (from_height _) (at₂ (goal.at.In_ok-c3 c).In_ok-width) c.in_ok-c3.ensures
 
-pub returns-in_default-s4 : goal.returns-in_default-s4
-returns-in_default-s4 c =
-    let e₁ = gap_on from_width (header-from _) c.opening-s1.ensures c.in-Gap.is in
-    let e₂ = number_on from_gap₂ e₁ c.number-s2.ensures c.in-Number.is in
-    let e₃ = gap_on (from_height _) e₂ c.gap-s3.ensures c.in-Gap-s3.is in
-    record {
-      result_value = number_off (from_gap₃ _) e₃ c.number-s4.ensures _ c.in_default-s4.not-Number c.fault_of-in_default-s4.ensures;
-      raster_within = tt;
-    }
+at₄ : (c : In_ok-height) → let s = c.args.file.now in
+    header (drop c.args.self.at s) ≡ from_gap₃ c.in_ok-width.width c.in_ok-height.height (drop c.in_ok-height.c4.at s)
+at₄ c = number_on (from_gap₃ _) (at₃ (goal.at.In_ok-height c).In_ok-c3) c.in_ok-height.ensures
 
-pub returns-in_default-s5 : goal.returns-in_default-s5
-returns-in_default-s5 c =
-    let e₁ = gap_on from_width (header-from _) c.opening-s1.ensures c.in-Gap.is in
-    let e₂ = number_on from_gap₂ e₁ c.number-s2.ensures c.in-Number.is in
-    let e₃ = gap_on (from_height _) e₂ c.gap-s3.ensures c.in-Gap-s3.is in
-    let e₄ = number_on (from_gap₃ _) e₃ c.number-s4.ensures c.in-Number-s4.is in
-    record {
-      result_value = gap_off (from_greatest _ _) e₄ c.gap-s5.ensures _ c.in_default-s5.not-Gap c.fault_of-in_default-s5.ensures;
-      raster_within = tt;
-    }
+at₅ : (c : In_ok-c5) → let s = c.args.file.now in
+    header (drop c.args.self.at s) ≡ from_greatest c.in_ok-width.width c.in_ok-height.height (drop c.in_ok-c5.c5.at s)
+at₅ c = gap_on (from_greatest _ _) (at₄ (goal.at.In_ok-c5 c).In_ok-height) c.in_ok-c5.ensures
 
-pub returns-in_default-s6 : goal.returns-in_default-s6
-returns-in_default-s6 c =
-    let e₁ = gap_on from_width (header-from _) c.opening-s1.ensures c.in-Gap.is in
-    let e₂ = number_on from_gap₂ e₁ c.number-s2.ensures c.in-Number.is in
-    let e₃ = gap_on (from_height _) e₂ c.gap-s3.ensures c.in-Gap-s3.is in
-    let e₄ = number_on (from_gap₃ _) e₃ c.number-s4.ensures c.in-Number-s4.is in
-    let e₅ = gap_on (from_greatest _ _) e₄ c.gap-s5.ensures c.in-Gap-s5.is in
-    record {
-      result_value = number_off (from_blank _ _) e₅ c.number-s6.ensures _ c.in_default-s6.not-Number c.fault_of-in_default-s6.ensures;
-      raster_within = tt;
-    }
+at₆ : (c : In_ok-greatest) → let s = c.args.file.now in
+    header (drop c.args.self.at s) ≡ from_blank c.in_ok-width.width c.in_ok-height.height c.in_ok-greatest.greatest (drop c.in_ok-greatest.c6.at s)
+at₆ c = number_on (from_blank _ _) (at₅ (goal.at.In_ok-greatest c).In_ok-c5) c.in_ok-greatest.ensures
 
-pub returns-in_default-s7 : goal.returns-in_default-s7
-returns-in_default-s7 c =
-    let e₁ = gap_on from_width (header-from _) c.opening-s1.ensures c.in-Gap.is in
-    let e₂ = number_on from_gap₂ e₁ c.number-s2.ensures c.in-Number.is in
-    let e₃ = gap_on (from_height _) e₂ c.gap-s3.ensures c.in-Gap-s3.is in
-    let e₄ = number_on (from_gap₃ _) e₃ c.number-s4.ensures c.in-Number-s4.is in
-    let e₅ = gap_on (from_greatest _ _) e₄ c.gap-s5.ensures c.in-Gap-s5.is in
-    let e₆ = number_on (from_blank _ _) e₅ c.number-s6.ensures c.in-Number-s6.is in
-    record {
-      result_value = gap_off (sound _ _ _) e₆ c.blank-s7.ensures _ c.in_default-s7.not-Gap c.fault_of-in_default-s7.ensures;
-      raster_within = tt;
-    }
+pub returns-in_err-c1-clause-result_value : goal.returns-in_err-c1-clause-result_value
+returns-in_err-c1-clause-result_value c =
+    let left = c.from_residual in
+    gap_off from_width (header-from _) left.result left.ensures.1 c.in_err-c1.ensures
 
-pub returns : goal.returns
-returns c =
-    let e₁ = gap_on from_width (header-from _) c.opening-s1.ensures c.in-Gap.is in
-    let e₂ = number_on from_gap₂ e₁ c.number-s2.ensures c.in-Number.is in
-    let e₃ = gap_on (from_height _) e₂ c.gap-s3.ensures c.in-Gap-s3.is in
-    let e₄ = number_on (from_gap₃ _) e₃ c.number-s4.ensures c.in-Number-s4.is in
-    let e₅ = gap_on (from_greatest _ _) e₄ c.gap-s5.ensures c.in-Gap-s5.is in
-    let e₆ = number_on (from_blank _ _) e₅ c.number-s6.ensures c.in-Number-s6.is in
-    let both = header_ends _ _ _ e₆ c.blank-s7.ensures c.in-Gap-s7.is in
-    record { result_value = both.0; raster_within = both.1 }
+pub returns-in_err-width-clause-result_value : goal.returns-in_err-width-clause-result_value
+returns-in_err-width-clause-result_value c =
+    let left = c.from_residual-in_err-width in
+    number_off from_gap₂ (at₁ (goal.at.returns-in_err-width-clause-result_value c).In_ok-c1) left.result left.ensures.1 c.in_err-width.ensures
+
+pub returns-in_err-c3-clause-result_value : goal.returns-in_err-c3-clause-result_value
+returns-in_err-c3-clause-result_value c =
+    let left = c.from_residual-in_err-c3 in
+    gap_off (from_height _) (at₂ (goal.at.returns-in_err-c3-clause-result_value c).In_ok-width) left.result left.ensures.1 c.in_err-c3.ensures
+
+pub returns-in_err-height-clause-result_value : goal.returns-in_err-height-clause-result_value
+returns-in_err-height-clause-result_value c =
+    let left = c.from_residual-in_err-height in
+    number_off (from_gap₃ _) (at₃ (goal.at.returns-in_err-height-clause-result_value c).In_ok-c3) left.result left.ensures.1 c.in_err-height.ensures
+
+pub returns-in_err-c5-clause-result_value : goal.returns-in_err-c5-clause-result_value
+returns-in_err-c5-clause-result_value c =
+    let left = c.from_residual-in_err-c5 in
+    gap_off (from_greatest _ _) (at₄ (goal.at.returns-in_err-c5-clause-result_value c).In_ok-height) left.result left.ensures.1 c.in_err-c5.ensures
+
+pub returns-in_err-greatest-clause-result_value : goal.returns-in_err-greatest-clause-result_value
+returns-in_err-greatest-clause-result_value c =
+    let left = c.from_residual-in_err-greatest in
+    number_off (from_blank _ _) (at₅ (goal.at.returns-in_err-greatest-clause-result_value c).In_ok-c5) left.result left.ensures.1 c.in_err-greatest.ensures
+
+pub returns-in_err-raster-clause-result_value : goal.returns-in_err-raster-clause-result_value
+returns-in_err-raster-clause-result_value c =
+    let left = c.from_residual-in_err-raster in
+    gap_off (sound _ _ _) (at₆ (goal.at.returns-in_err-raster-clause-result_value c).In_ok-greatest) left.result left.ensures.1 c.in_err-raster.ensures
+
+pub returns-clause-result_value : goal.returns-clause-result_value
+returns-clause-result_value c = sym (gap_on (sound _ _ _) (at₆ (goal.at.returns-clause-result_value c).In_ok-greatest) c.in_ok-raster.ensures)
