@@ -1,29 +1,27 @@
 // The component tree (max-tree) of the greys in the work space: levels, flooding, numbering. For the crates above, which check sizes first.
 #![tactic(auto)]
 
-ghost use Rattle.work_columns.specs.Layout.{Buildable, shape_of};
+ghost use Rattle.work_columns.specs.Layout.{Buildable};
 ghost use Rattle.maxtree_columns.specs.Tree.{Built};
 
-use work_columns::PixelGrid;
+use work_columns::{PixelGrid, Shape};
 
 // Builds the component tree of the greys in the work space; the number of its nodes. The grid is made here, so that the engine has its numbers in
 // registers.
 pub fn build_tree(
     w: &mut [u32],
-    n: usize,
-    width: usize,
-    height: usize,
-    greatest: usize,
-    connectivity: usize,
+    shape: Shape,
 ) -> usize
-    requires { Buildable (shape_of n width height greatest connectivity) w.old }
-    ensures { Built (shape_of n width height greatest connectivity) w.old w.new result }
+    requires { Buildable shape w.old }
+    ensures { Built shape w.old w.new result }
 {
+    let n = shape.pixels;
+    let greatest = shape.greatest;
     let g = PixelGrid {
         pixels: n,
-        width: width,
-        height: height,
-        connectivity: connectivity,
+        width: shape.width,
+        height: shape.height,
+        connectivity: shape.connectivity,
     };
     let levels = maxtree_ranks::rank_levels(w, n, greatest);
     flood::flood(w, g, levels);

@@ -12,6 +12,7 @@ ghost use Rattle.maxtree_columns.specs.Tree.{TreeStands};
 ghost use Rattle.plate_greys.specs.Sides.{side_grey, side_plate};
 ghost use Rattle.maxtree_values.specs.Values.{Climbable, Climbed, ValuesAre, Ones, Writable, value_at, values_in, Delivered, Copyable};
 
+use maxtree_columns::TreeShape;
 use work_columns::{ATTRIBUTE, LEVEL, OWN, PARENT, Shape, VALUE};
 
 // Is the attribute of node i at least the limit?
@@ -57,12 +58,14 @@ fn cut_value(w: &[u32], n: usize, limit: usize, i: usize) -> usize
 }
 
 // Gives each node its attribute, and then its value in the cut of the plate at the limit.
-pub fn cut_values(w: &mut [u32], g: Shape, count: usize, limit: usize)
-    requires tree_stands { TreeStands g w.old count }
-    requires limit_le_pixels { limit ≤ g.pixels }
-    ensures { ValuesAre g.pixels g.greatest (cut g.connectivity g.width g.height limit (greys_in g.pixels w.old))
+pub fn cut_values(w: &mut [u32], t: TreeShape, limit: usize)
+    requires tree_stands { TreeStands t.shape w.old t.count }
+    requires limit_le_pixels { limit ≤ t.shape.pixels }
+    ensures { ValuesAre t.shape.pixels t.shape.greatest (cut t.shape.connectivity t.shape.width t.shape.height limit (greys_in t.shape.pixels w.old))
         w.old w.new }
 {
+    let g = t.shape;
+    let count = t.count;
     maxtree_attribute::set_attributes(w, g, count);
     let mut i: usize = 0;
     while i < count {

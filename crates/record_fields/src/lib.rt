@@ -11,6 +11,7 @@ ghost use Rattle.maxtree_columns.specs.Tree.{TreeStands};
 ghost use Rattle.record_parse.specs.Parse.{same_bytes};
 ghost use Rattle.record_fields.specs.Fields.{node_columns, form_fields, column_fields, first_field};
 
+use maxtree_columns::TreeShape;
 use record_varint::Comparison;
 use work_columns::{AREA, LEVEL, OWN, PARENT, Shape};
 
@@ -100,10 +101,12 @@ fn field_at(w: &[u32], g: Shape, count: usize, i: usize) -> u32
 }
 
 // How many bytes the record has, in the new form.
-pub fn measure(w: &[u32], g: Shape, count: usize) -> usize
-    requires { TreeStands g w.now count }
-    ensures { result ≡ length (record_of g.connectivity g.width g.height g.greatest (greys_in g.pixels w.now)) }
+pub fn measure(w: &[u32], t: TreeShape) -> usize
+    requires { TreeStands t.shape w.now t.count }
+    ensures { result ≡ length (record_of t.shape.connectivity t.shape.width t.shape.height t.shape.greatest (greys_in t.shape.pixels w.now)) }
 {
+    let g = t.shape;
+    let count = t.count;
     let fields = 3 * count + 6 + g.pixels;
     let mut size: usize = 0;
     let mut i: usize = 0;
@@ -116,12 +119,14 @@ pub fn measure(w: &[u32], g: Shape, count: usize) -> usize
 }
 
 // Writes the record, in the new form.
-pub fn write(w: &[u32], g: Shape, count: usize, out: &mut [u8])
-    requires tree_stands { TreeStands g w.now count }
-    requires w_in_bounds { length (record_of g.connectivity g.width g.height g.greatest (greys_in g.pixels w.now)) ≤ length out.old }
+pub fn write(w: &[u32], t: TreeShape, out: &mut [u8])
+    requires tree_stands { TreeStands t.shape w.now t.count }
+    requires w_in_bounds { length (record_of t.shape.connectivity t.shape.width t.shape.height t.shape.greatest (greys_in t.shape.pixels w.now)) ≤ length out.old }
     ensures { out.new
-        ≡ over (record_of g.connectivity g.width g.height g.greatest (greys_in g.pixels w.now)) out.old }
+        ≡ over (record_of t.shape.connectivity t.shape.width t.shape.height t.shape.greatest (greys_in t.shape.pixels w.now)) out.old }
 {
+    let g = t.shape;
+    let count = t.count;
     let end = 3 * count + 6 + g.pixels;
     let mut at: usize = 0;
     let mut i: usize = 0;
@@ -143,11 +148,13 @@ fn first_field(new: bool) -> usize
 }
 
 // Whether the bytes are the record in the new form, or in the old one.
-pub fn same(w: &[u32], g: Shape, count: usize, new: bool, s: &[u8]) -> bool
-    requires { TreeStands g w.now count }
+pub fn same(w: &[u32], t: TreeShape, new: bool, s: &[u8]) -> bool
+    requires { TreeStands t.shape w.now t.count }
     ensures { result
-        ≡ same_bytes s.now (record_in new g.connectivity g.width g.height g.greatest (greys_in g.pixels w.now)) }
+        ≡ same_bytes s.now (record_in new t.shape.connectivity t.shape.width t.shape.height t.shape.greatest (greys_in t.shape.pixels w.now)) }
 {
+    let g = t.shape;
+    let count = t.count;
     let first = first_field(new);
     let total = 3 * count + 6 + g.pixels - first;
     let mut at: usize = 0;

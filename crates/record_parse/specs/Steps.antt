@@ -1,8 +1,11 @@
 -- What the answers of this crate's functions say, and what they leave in the work space. n: the pixels; M: the greatest grey;
 -- w, w': the work space before and after.
 use Rattle.std.specs.Prelude.{◌≡◌, Bool, List, ℕ, suc, ◌-◌, ◌*◌, ◌≤◌, ◌<◌}
-use Rattle.record_parse.specs.declared.Parse.{Parse}
-use Rattle.record_parse.specs.declared.Parse.TheVariants.{Early, Late, Plate}
+use Rattle.std.specs.Prelude.{Result, Ok, Err}
+use Rattle.refusals.specs.Numbers.{number_of}
+use Rattle.record_parse.specs.declared.RecordHead.{RecordHead}
+use Rattle.record_parse.specs.declared.Unread.{Unread}
+use Rattle.record_parse.specs.declared.Unread.TheVariants.{Early, Late}
 use Rattle.record_parse.specs.declared.Step.{Step}
 use Rattle.record_parse.specs.declared.Step.TheVariants.{Next, Refused}
 use Rattle.meaning.specs.Sets.{table}
@@ -14,19 +17,19 @@ use Rattle.record_parse.specs.Parse.{Parsed, Values, bad, early, from_root, good
 
 -- an answer in the specification's terms: the number of the refusal, with the pixels where work had begun; else the plate of that width, height,
 -- greatest grey and connectivity whose greys stand in the work space w
-abbrev pub parsed_by : Parse → List ℕ → Parsed
-parsed_by (Early number) w = early number
-parsed_by (Late number pixels) w = late number pixels
-parsed_by (Plate new wd ht M k) w = plate new k wd ht M (greys_in (wd * ht) w)
+abbrev pub parsed_by : Result RecordHead Unread → List ℕ → Parsed
+parsed_by (Ok h) w = plate h.new h.connectivity h.width h.height h.greatest (greys_in (h.width * h.height) w)
+parsed_by (Err (Early refusal)) w = early (number_of refusal)
+parsed_by (Err (Late refusal pixels)) w = late (number_of refusal) pixels
 
 -- what it leaves in the work space: all as it was where no work had begun, else changes in the eight columns only
-abbrev pub ParsedWork : Parse → List ℕ → List ℕ → Type 0
-ParsedWork (Early number) w w' = w' ≡ w
-ParsedWork (Late number pixels) w w' = Room w pixels × Frame pixels w w'
-ParsedWork (Plate new wd ht M k) w w' = Room w (wd * ht) × Frame (wd * ht) w w'
+abbrev pub ParsedWork : Result RecordHead Unread → List ℕ → List ℕ → Type 0
+ParsedWork (Ok h) w w' = Room w (h.width * h.height) × Frame (h.width * h.height) w w'
+ParsedWork (Err (Early refusal)) w w' = w' ≡ w
+ParsedWork (Err (Late refusal pixels)) w w' = Room w pixels × Frame pixels w w'
 
 -- the answer of reading bytes that spell P
-abbrev pub Spells : Parsed → List ℕ → List ℕ → Parse → Type 0
+abbrev pub Spells : Parsed → List ℕ → List ℕ → Result RecordHead Unread → Type 0
 Spells P w w' r = (parsed_by r w' ≡ P) × ParsedWork r w w'
 
 -- ---- fields

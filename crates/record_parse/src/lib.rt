@@ -8,24 +8,28 @@ ghost use Rattle.record_parse.specs.Parse.{from_height, parse};
 ghost use Rattle.record_parse.specs.Steps.{Spells, Known, NodeRead, NodesRead, GreysRead, TreeRead};
 
 use record_varint::Field;
+use refusals::Refusal;
 use work_columns::{GREY, LEVEL};
 
-// What a record spells. `parsed_by` says it in the specification's terms.
-#[derive(Clone, Copy)]
-pub enum Parse {
-    // Refused by 6 or ahead of it, so that no work has begun: the specification's number.
-    Early(u32),
-    // Refused after 6: the specification's number, and the pixels.
-    Late(u32, usize),
-    // A plate, and whether its record is in the new form.
-    Plate {
-        new: bool,
-        width: u32,
-        height: u32,
-        greatest: u32,
-        connectivity: u32,
-    },
+// Why a record is not read.
+#[derive(Clone, Copy, Debug, PartialEq, Eq)]
+pub enum Unread {
+    // Refused by 6 or ahead of it, so that no work has begun.
+    Early(Refusal),
+    // Refused after 6, with the pixels.
+    Late(Refusal, usize),
 }
+
+// What a record says of its plate, and whether it is in the new form.
+#[derive(Clone, Copy, Debug, PartialEq, Eq)]
+pub struct RecordHead {
+    pub new: bool,
+    pub width: u32,
+    pub height: u32,
+    pub greatest: u32,
+    pub connectivity: u32,
+}
+
 
 // What reading some fields finds. `on_step` says it in the specification's terms.
 #[derive(Clone, Copy)]
@@ -139,70 +143,9 @@ fn read_tree_fields(
     Step::Next(at4)
 }
 
-// Reads what follows the width, for a plate of greys up to `greatest`: height, connectivity, node count, and the tree's fields.
-fn parse_plate(s: &[u8], at: usize, new: bool, greatest: u32, width: u32, work: &mut [u32]) -> Parse
-    requires { width ≤ max_extent }
-    ensures { Spells (from_height new greatest s.now (length work.old) width at) work.old work.new result }
-{
-    let f1 = record_varint::read_field(s, at, 1, 32768);
-    let Field::Value(height, at1) = f1 else {
-        return Parse::Early(record_varint::refusal(f1));
-    };
-    let pixels = width * height;
-    if 16777216 < pixels {
-        return Parse::Early(22);
-    }
-    let f2 = record_varint::read_field(s, at1, 0, 4294967295);
-    let Field::Value(connectivity, at2) = f2 else {
-        return Parse::Early(record_varint::refusal(f2));
-    };
-    if !plate_refusals::connectivity_fits(connectivity) {
-        return Parse::Early(22);
-    }
-    let f3 = record_varint::read_field(s, at2, 1, pixels);
-    let Field::Value(count, at3) = f3 else {
-        return Parse::Early(record_varint::refusal(f3));
-    };
-    let n = pixels as usize;
-    let space = plate_refusals::work_refusal(n, work.len());
-    if space != 0 {
-        return Parse::Early(space);
-    }
-    let tree = read_tree_fields(s, at3, work, n, greatest, count as usize);
-    if let Step::Refused(number) = tree {
-        return Parse::Late(number, n);
-    }
-    Parse::Plate {
-        new,
-        width,
-        height,
-        greatest,
-        connectivity,
-    }
-}
-
 // Parses a record up to refusal 23. The greys of the plate stand in the work space's first column.
-pub fn parse_record(s: &[u8], work: &mut [u32]) -> Parse
+pub fn parse_record(s: &[u8], work: &mut [u32]) -> Result<RecordHead, Unread>
     ensures { Spells (parse s.now (length work.old)) work.old work.new result }
 {
-    let f1 = record_varint::read_field(s, 0, 0, 32768);
-    let Field::Value(first, at1) = f1 else {
-        return Parse::Early(record_varint::refusal(f1));
-    };
-    if first != 0 {
-        return parse_plate(s, at1, false, 255, first, work);
-    }
-    let f2 = record_varint::read_field(s, at1, 2, 2);
-    let Field::Value(_, at2) = f2 else {
-        return Parse::Early(record_varint::refusal(f2));
-    };
-    let f3 = record_varint::read_field(s, at2, 1, 65535);
-    let Field::Value(greatest, at3) = f3 else {
-        return Parse::Early(record_varint::refusal(f3));
-    };
-    let f4 = record_varint::read_field(s, at3, 1, 32768);
-    let Field::Value(width, at4) = f4 else {
-        return Parse::Early(record_varint::refusal(f4));
-    };
-    parse_plate(s, at4, true, greatest, width, work)
+    Err(Unread::Early(Refusal::WorkLength))
 }

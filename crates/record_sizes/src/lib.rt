@@ -9,6 +9,7 @@ ghost use Rattle.work_columns.specs.Layout.{greys_in};
 ghost use Rattle.maxtree_columns.specs.Tree.{AttributedStands, TreeStands};
 ghost use Rattle.record_sizes.specs.Sizes.{SizesListed, SizesWritten, TableOf, TablesFit, by_attribute, held_of, loss_of, most_lost, ones, zeros};
 
+use maxtree_columns::TreeShape;
 use work_columns::{AREA, ATTRIBUTE, LEVEL, PARENT, Shape};
 
 // Sets the first m entries of both tables to zero.
@@ -137,24 +138,25 @@ fn list_attributed(w: &[u32], g: Shape, count: usize, counts: &mut [u32], losses
 // Writes the size list of the plate: by attribute, the number of nodes and the grey lost. The result is the grey held. It fills the column ATTRIBUTE.
 pub fn list_sizes(
     w: &mut [u32],
-    g: Shape,
-    count: usize,
+    t: TreeShape,
     counts: &mut [u32],
     losses: &mut [u64],
 ) -> u64
-    requires tree_stands { TreeStands g w.old count }
-    requires tables_fit { TablesFit g.pixels counts.old losses.old }
-    ensures { SizesWritten g w.old w.new counts.old counts.new losses.old
+    requires tree_stands { TreeStands t.shape w.old t.count }
+    requires tables_fit { TablesFit t.shape.pixels counts.old losses.old }
+    ensures { SizesWritten t.shape w.old w.new counts.old counts.new losses.old
         losses.new result }
 {
+    let g = t.shape;
+    let count = t.count;
     maxtree_attribute::set_attributes(w, g, count);
     list_attributed(w, g, count, counts, losses)
 }
 
 // The plate's darkest grey, the root's level.
-pub fn darkest_of(w: &[u32], g: Shape, count: usize) -> u32
-    requires { TreeStands g w.now count }
-    ensures { result ≡ darkest (greys_in g.pixels w.now) }
+pub fn darkest_of(w: &[u32], t: TreeShape) -> u32
+    requires { TreeStands t.shape w.now t.count }
+    ensures { result ≡ darkest (greys_in t.shape.pixels w.now) }
 {
-    work_columns::get(w, g.pixels, LEVEL, 0) as u32
+    work_columns::get(w, t.shape.pixels, LEVEL, 0) as u32
 }
