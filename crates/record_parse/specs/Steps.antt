@@ -18,13 +18,13 @@ use Rattle.record_parse.specs.Parse.{Parsed, Values, bad, early, from_root, good
 -- an answer in the specification's terms: the number of the refusal, with the pixels where work had begun; else the plate of that width, height,
 -- greatest grey and connectivity whose greys stand in the work space w
 abbrev pub parsed_by : Result RecordHead Unread → List ℕ → Parsed
-parsed_by (Ok h) w = plate h.new h.connectivity h.width h.height h.greatest (greys_in (h.width * h.height) w)
+parsed_by (Ok h) w = plate h.new h.plate.connectivity h.plate.width h.plate.height h.plate.greatest (greys_in (h.plate.width * h.plate.height) w)
 parsed_by (Err (Early refusal)) w = early (number_of refusal)
 parsed_by (Err (Late refusal pixels)) w = late (number_of refusal) pixels
 
 -- what it leaves in the work space: all as it was where no work had begun, else changes in the eight columns only
 abbrev pub ParsedWork : Result RecordHead Unread → List ℕ → List ℕ → Type 0
-ParsedWork (Ok h) w w' = Room w (h.width * h.height) × Frame (h.width * h.height) w w'
+ParsedWork (Ok h) w w' = Room w (h.plate.width * h.plate.height) × Frame (h.plate.width * h.plate.height) w w'
 ParsedWork (Err (Early refusal)) w w' = w' ≡ w
 ParsedWork (Err (Late refusal pixels)) w w' = Room w pixels × Frame pixels w w'
 

@@ -8,6 +8,7 @@ ghost use Rattle.record_parse.specs.Parse.{from_height, parse};
 ghost use Rattle.record_parse.specs.Steps.{Spells, Known, NodeRead, NodesRead, GreysRead, TreeRead};
 
 use record_varint::Field;
+use plate_refusals::PlateHead;
 use refusals::Refusal;
 use work_columns::{GREY, LEVEL};
 
@@ -24,10 +25,7 @@ pub enum Unread {
 #[derive(Clone, Copy, Debug, PartialEq, Eq)]
 pub struct RecordHead {
     pub new: bool,
-    pub width: u32,
-    pub height: u32,
-    pub greatest: u32,
-    pub connectivity: u32,
+    pub plate: PlateHead,
 }
 
 
