@@ -34,14 +34,14 @@ found_unread s w w' (Late refusal pixels) x = (ap (compared s) (sym x.0), x.1)
 -- ---- a plate. h: what the record says of it
 
 module _ (s w w₁ : List ℕ) (h : RecordHead) (x : Spells (parse s (length w)) w w₁ (Ok h)) where
-  parsed : parse s (length w) ≡ plate h.new h.connectivity h.width h.height h.greatest (greys_in (h.width * h.height) w₁)
+  parsed : parse s (length w) ≡ plate h.new h.plate.connectivity h.plate.width h.plate.height h.plate.greatest (greys_in (h.plate.width * h.plate.height) w₁)
   parsed = sym x.0
 
-  accepted : Plate h.connectivity h.width h.height h.greatest (greys_in (h.width * h.height) w₁)
-  accepted = (parse_plate s (length w) h.new h.connectivity h.width h.height h.greatest (greys_in (h.width * h.height) w₁) parsed).accepted
+  accepted : Plate h.plate.connectivity h.plate.width h.plate.height h.plate.greatest (greys_in (h.plate.width * h.plate.height) w₁)
+  accepted = (parse_plate s (length w) h.new h.plate.connectivity h.plate.width h.plate.height h.plate.greatest (greys_in (h.plate.width * h.plate.height) w₁) parsed).accepted
 
   -- g: its shape
-  module _ {g : Shape} (is : g ≡ shape_of (h.width * h.height) h.width h.height h.greatest h.connectivity) where
+  module _ {g : Shape} (is : g ≡ shape_of (h.plate.width * h.plate.height) h.plate.width h.plate.height h.plate.greatest h.plate.connectivity) where
     -- the tree can be built
     pub head_buildable : Buildable g w₁
     head_buildable = rw is (record {
@@ -53,37 +53,37 @@ module _ (s w w₁ : List ℕ) (h : RecordHead) (x : Spells (parse s (length w))
       greys = λ p l.
           omega (
             arith,
-            ap (λ (f : ℕ → ℕ). f p) (greys_column (h.width * h.height) w₁),
-            accepted.greys p (omega (arith, greys_length (h.width * h.height) w₁)),
+            ap (λ (f : ℕ → ℕ). f p) (greys_column (h.plate.width * h.plate.height) w₁),
+            accepted.greys p (omega (arith, greys_length (h.plate.width * h.plate.height) w₁)),
           );
     })
 
     module _ {w₂ : List ℕ} {count : ℕ} (did : Built g w₁ w₂ count) where
-      built : Built (shape_of (h.width * h.height) h.width h.height h.greatest h.connectivity) w₁ w₂ count
+      built : Built (shape_of (h.plate.width * h.plate.height) h.plate.width h.plate.height h.plate.greatest h.plate.connectivity) w₁ w₂ count
       built = rw is at did
 
-      whole : Frame (h.width * h.height) w w₂
+      whole : Frame (h.plate.width * h.plate.height) w w₂
       whole = frame_trans x.1.1 built.frame
 
-      read_is : read_of s (length w) ≡ compared s (plate h.new h.connectivity h.width h.height h.greatest (greys_in (h.width * h.height) w₂))
+      read_is : read_of s (length w) ≡ compared s (plate h.new h.plate.connectivity h.plate.width h.plate.height h.plate.greatest (greys_in (h.plate.width * h.plate.height) w₂))
       unfolding read_of
       read_is =
           ap (compared s) parsed
-          ∙ ap (λ (f : List ℕ). compared s (plate h.new h.connectivity h.width h.height h.greatest f)) (sym (tree_plate built.tree))
+          ∙ ap (λ (f : List ℕ). compared s (plate h.new h.plate.connectivity h.plate.width h.plate.height h.plate.greatest f)) (sym (tree_plate built.tree))
 
       module _ {same : Bool}
           (e : same ≡ same_bytes s (record_in h.new g.connectivity g.width g.height g.greatest (greys_in g.pixels w₂))) where
-        same-is : same_bytes s (record_in h.new h.connectivity h.width h.height h.greatest (greys_in (h.width * h.height) w₂)) ≡ same
+        same-is : same_bytes s (record_in h.new h.plate.connectivity h.plate.width h.plate.height h.plate.greatest (greys_in (h.plate.width * h.plate.height) w₂)) ≡ same
         same-is = sym (rw is at e)
 
         -- 24
-        pub found_other : same ≡ false → Finds (read_of s (length w)) w w₂ (Err (Late RecordOther (h.width * h.height)))
+        pub found_other : same ≡ false → Finds (read_of s (length w)) w w₂ (Err (Late RecordOther (h.plate.width * h.plate.height)))
         found_other d = (read_is ∙ rw (same-is, d), (x.1.0, whole))
 
         -- a plate's record
         pub found_tree : same ≡ true → TreeFound (read_of s (length w)) w w₂ (record {
           new = h.new;
-          plate = record { width = h.width; height = h.height; greatest = h.greatest; connectivity = h.connectivity };
+          plate = h.plate;
           tree = record { shape = g; count = count };
         })
         found_tree d = record { is = read_is ∙ rw (same-is, d); frame = whole; shape = is; tree = tree_here did.tree }

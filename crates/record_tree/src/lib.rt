@@ -9,7 +9,7 @@ ghost use Rattle.record_tree.specs.Found.{Finds, Reads, GreysStand};
 
 use maxtree_columns::TreeShape;
 use plate_refusals::PlateHead;
-use record_parse::Unread;
+use record_parse::{RecordHead, Unread};
 use refusals::Refusal;
 use work_columns::GREY;
 
@@ -25,25 +25,15 @@ pub struct FoundTree {
 fn find_tree(bytes: &[u8], work: &mut [u32]) -> Result<FoundTree, Unread>
     ensures { Finds (read_of bytes.now (length work.old)) work.old work.new result }
 {
-    let head = record_parse::parse_record(bytes, work)?;
-    let plate = PlateHead {
-        width: head.width,
-        height: head.height,
-        greatest: head.greatest,
-        connectivity: head.connectivity,
-    };
-    let pixels = (head.width * head.height) as usize;
+    let RecordHead { new, plate } = record_parse::parse_record(bytes, work)?;
+    let pixels = (plate.width * plate.height) as usize;
     let shape = plate.shape(pixels);
     let count = maxtree::build_tree(work, shape);
     let tree = TreeShape { shape, count };
-    if !record_fields::same(work, tree, head.new, bytes) {
+    if !record_fields::same(work, tree, new, bytes) {
         return Err(Unread::Late(Refusal::RecordOther, pixels));
     }
-    Ok(FoundTree {
-        new: head.new,
-        plate,
-        tree,
-    })
+    Ok(FoundTree { new, plate, tree })
 }
 
 // Reads a record up to 24. The tree of its plate then stands in the work space, which is zeroed where the record is refused after the work began.
