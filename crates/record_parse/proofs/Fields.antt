@@ -1,17 +1,23 @@
 -- One field: what reading it found, as a fact of the definition; and a list of values that grows by one.
-use mathlib.Core.Path.{◌≡◌, sym, ap, ◌∙◌}
+use Rattle.std.specs.Prelude.{Result, Ok, Err, IsErrAnd, MatchResult, is_ok, true}
+use Rattle.std.proofs.lemmas.Result.{err_from_is_err_and}
+use mathlib.Core.Path.{◌≡◌, refl, sym, ap, ◌∙◌}
 use mathlib.Core.List.{List, [], ◌∷◌, ◌++◌}
 use Prim.Native.Nat.{ℕ, suc, ◌≤◌, ◌<◌}
 use native.Mathlib.Omega.{arith}
 use lib.ListN.{length, get_or, length-append, get_or-append}
 use lib.Seq.{ext_get_or, get_or-append_seam}
 use Rattle.record_varint.specs.declared.Fault.{Fault}
-use Rattle.record_varint.specs.declared.Field.{Field}
-use Rattle.record_varint.specs.declared.Field.TheVariants.{Value, Refused}
 use Rattle.meaning.specs.Sets.{table}
 use Rattle.theory_lists.proofs.Lists.{get_d_table, length-table}
 use Rattle.theory_lists.proofs.Sets.{below_suc}
-use Rattle.record_varint.specs.Field.{Reading, accepted, field_at, reading, refused, refusal_of}
+use Rattle.record_varint.specs.Field as fields
+use Rattle.record_varint.specs.Field.{Reading, Refuses, accepted, field_at, reading, refused}
+use Rattle.refusals.specs.Numbers.{number_of, refusal_of}
+use Rattle.refusals.specs.declared.Refusal.{Refusal}
+use Rattle.record_parse.specs.Steps.{RefusesEarly}
+use Rattle.record_parse.specs.declared.Unread.{Unread}
+use Rattle.record_parse.specs.declared.Unread.TheVariants.{Early, Late}
 use Rattle.record_varint.proofs.Reading.{field_read}
 
 -- the field at a position is accepted: the number v, in its range, and the position after it
@@ -20,16 +26,50 @@ pub record Took (s : List ℕ) (at lo hi v next : ℕ) : Type 0 where
   pub low : lo ≤ v
   pub high : v ≤ hi
 
-pub took : (s : List ℕ) (at lo hi : ℕ) {f : Field} {v next : ℕ} → reading f ≡ field_at s at lo hi → f ≡ Value v next → Took s at lo hi v next
-took s at lo hi {f} {v} {next} e is =
-    let r : field_at s at lo hi ≡ accepted v next = sym e ∙ ap reading is in
-    let a = field_read s at lo hi v next r in
-    record { read = r; low = a.low; high = a.high }
+pub took : (s : List ℕ) (at lo hi : ℕ) {v next : ℕ} → accepted v next ≡ field_at s at lo hi → Took s at lo hi v next
+took s at lo hi {v} {next} e =
+    let a = field_read s at lo hi v next (sym e) in
+    record { read = sym e; low = a.low; high = a.high }
 
--- the field is refused, with the number that the answer gives
-pub stopped : {g : Reading} {f : Field} {fault : Fault} {number : ℕ} → reading f ≡ g → f ≡ Refused fault → number ≡ refusal_of (reading f)
-    → g ≡ refused number
-stopped {f = f} {fault} e told is = sym e ∙ ap reading told ∙ ap refused (sym (is ∙ ap (λ (x : Field). refusal_of (reading x)) told))
+-- the answer r refuses, with the number that reading a field gives
+pub record Stopped {T : Type 0} (g : Reading) (r : Result T Refusal) : Type 0 where
+  pub refusal : Refusal
+  pub is : r ≡ Err refusal
+  pub read : g ≡ refused (number_of refusal)
+
+pub stopped : {T : Type 0} (r : Result T Refusal) (g : Reading) (fault : Fault) → refused (fields.number_of fault) ≡ g → IsErrAnd r (Refuses fault)
+    → Stopped g r
+stopped r g fault e is =
+    let y = err_from_is_err_and r is in
+    record { refusal = y.0; is = y.1; read = sym e ∙ ap refused (sym y.2) }
+
+-- the same of a refusal ahead of 6
+pub record StoppedEarly {T : Type 0} (g : Reading) (r : Result T Unread) : Type 0 where
+  pub refusal : Refusal
+  pub is : r ≡ Err (Early refusal)
+  pub read : g ≡ refused (number_of refusal)
+
+pub stopped_early : {T : Type 0} (r : Result T Unread) (g : Reading) (fault : Fault) → refused (fields.number_of fault) ≡ g
+    → IsErrAnd r (RefusesEarly fault) → StoppedEarly g r
+stopped_early (Ok x) g fault e is = absurd is
+stopped_early (Err (Early refusal)) g fault e is = record { refusal = refusal; is = refl; read = sym e ∙ ap refused (sym is) }
+stopped_early (Err (Late refusal pixels)) g fault e is = absurd is
+
+-- where the field's fault is at hand
+pub unread : {T : Type 0} {f : Result (ℕ × ℕ) Fault} {g : Reading} {fault : Fault} {u : Unread} → reading f ≡ g → f ≡ Err fault
+    → RefusesEarly fault u → StoppedEarly {T = T} g (Err u)
+unread {fault = fault} {u} e told is = stopped_early (Err u) _ fault (sym (ap reading told) ∙ e) is
+
+-- the refusal of a check, ahead of 6
+pub early_of : {T : Type 0} (f : Result T Refusal) (u : Unread)
+    → MatchResult f (λ x. ◌≡◌ {A = Result T Unread} (Err u) (Ok x)) (λ e. IsErrAnd {T = T} (Err u) (λ y. y ≡ Early e))
+    → (refusal : Refusal) × (f ≡ Err refusal) × (u ≡ Early refusal)
+early_of (Ok x) u h = absurd (cc)
+early_of (Err e) u h = (e, refl, h)
+
+pub passed : {T : Type 0} (f : Result T Refusal) → true ≡ is_ok f → refusal_of f ≡ 0
+passed (Ok x) h = refl
+passed (Err e) h = absurd (cc)
 
 -- one value more
 pub table_more : (i : ℕ) (g g' : ℕ → ℕ) (v : ℕ) → ((j : ℕ) → j < i → g' j ≡ g j) → g' i ≡ v → table (suc i) g' ≡ table i g ++ (v ∷ [])

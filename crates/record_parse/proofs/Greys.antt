@@ -5,16 +5,17 @@ use Prim.Native.Nat.{ℕ, suc, ◌+◌, ◌-◌, ◌≤◌, ◌<◌}
 use native.Mathlib.Omega.{arith}
 use native.Mathlib.Numerals.{add-one}
 use lib.Seq.{append_snoc}
-use Rattle.record_parse.specs.declared.Step.TheVariants.{Next, Refused}
+use Rattle.std.specs.Prelude.{Result, Ok}
+use Rattle.refusals.specs.declared.Refusal.{Refusal}
 use Rattle.meaning.specs.Sets.{nth, span, table}
 use Rattle.theory_lists.proofs.Lists.{get_d_table, length-table}
 use Rattle.work_columns.specs.Columns.{Frame, Stored, col}
 use Rattle.work_columns.specs.Layout.{GREY, LEVEL}
 use Rattle.work_columns.proofs.Columns.{frame-refl, frame_trans}
-use Rattle.record_varint.specs.Field.{field_at, refused}
+use Rattle.record_varint.specs.Field.{field_at}
 use Rattle.record_parse.specs.Parse.{Values, bad, good, greys_from, more}
 use Rattle.record_parse.specs.Steps.{GreysRead, levels_in}
-use Rattle.record_parse.proofs.Fields.{Took, table_more}
+use Rattle.record_parse.proofs.Fields.{Took, Stopped, table_more}
 
 -- values ahead of those that are left
 abbrev pub prepend : List ℕ → Values → Values
@@ -55,9 +56,9 @@ module _ {s : List ℕ} {start n : ℕ} {w₀ w : List ℕ} {count p at : ℕ} (
         let k : n - p ≡ suc (n - suc p) = omega arith in
         l.rest ∙ ap (λ (m : ℕ). prepend (table p (col GREY n w)) (greys_from s n (levels_in n w₀ count) m at)) k
 
-    pub greys_stop : {number : ℕ} → field_at s at 0 (count - 1) ≡ refused number → GreysRead s start n w₀ w count (Refused number)
+    pub greys_stop : {r : Result ℕ Refusal} → Stopped (field_at s at 0 (count - 1)) r → GreysRead s start n w₀ w count r
     unfolding greys_from
-    greys_stop {number} e = record { frame = l.frame; rest = turn ∙ rw (length-table count (col LEVEL n w₀), e) }
+    greys_stop e = rw e.is record { frame = l.frame; rest = turn ∙ rw (length-table count (col LEVEL n w₀), e.read) }
 
     pub greys_more : {own next level : ℕ} {w' : List ℕ} → 1 ≤ count → Took s at 0 (count - 1) own next → level ≡ col LEVEL n w own
         → Stored w w' n GREY p level → GreysLeft s start n w₀ w' count (p + 1) next
@@ -79,7 +80,7 @@ module _ {s : List ℕ} {start n : ℕ} {w₀ w : List ℕ} {count p at : ℕ} (
         field : greys_from s n (levels_in n w₀ count) (suc (n - suc p)) at ≡ more level (greys_from s n (levels_in n w₀ count) (n - suc p) next)
         field = rw (length-table count (col LEVEL n w₀), a.read, found)
 
-  pub greys_done : n ≤ p → GreysRead s start n w₀ w count (Next at)
+  pub greys_done : n ≤ p → GreysRead s start n w₀ w count (Ok at)
   unfolding greys_from
   greys_done h =
       let e : p ≡ n = omega (arith, l.upto) in

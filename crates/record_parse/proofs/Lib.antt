@@ -3,5 +3,6 @@ pub mod Fields
 pub mod Nodes
 pub mod Greys
 pub mod Tree
+pub mod Record
 pub mod Sound
 pub mod Examples

@@ -6,24 +6,25 @@ use Prim.Native.Nat.{ℕ, ◌-◌, ◌*◌, ◌≤◌, ◌<◌}
 use native.Mathlib.Omega.{arith}
 use borrow.Author.Tests.{lt-ltb, le-ltb}
 use lib.ListN.{length}
-use Rattle.record_parse.specs.declared.Step.{Step}
-use Rattle.record_parse.specs.declared.Step.TheVariants.{Next, Refused}
+use Rattle.std.specs.Prelude.{Result, Ok, Err, IsErrAnd}
+use Rattle.std.proofs.lemmas.Result.{err_from_is_err_and}
+use Rattle.refusals.specs.declared.Refusal.{Refusal}
+use Rattle.refusals.specs.declared.Refusal.TheVariants.{RecordLong}
 use Rattle.meaning.specs.Sets.{span, table}
 use Rattle.work_columns.specs.Columns.{Frame, Room, Stored}
 use Rattle.work_columns.specs.Layout.{LEVEL}
 use Rattle.work_columns.proofs.Columns.{frame-refl, frame_room, frame_trans}
-use Rattle.record_varint.specs.Field.{field_at, refused}
+use Rattle.record_varint.specs.Field.{field_at}
 use Rattle.record_parse.specs.Parse.{from_nodes, from_root, good, levels_from}
 use Rattle.record_parse.specs.Steps.{GreysRead, Known, NodesRead, TreeRead, levels_in, on_step}
-use Rattle.record_parse.proofs.Fields.{Took}
+use Rattle.record_parse.proofs.Fields.{Took, Stopped}
 
-module _ {M : ℕ} {s : List ℕ} {at n : ℕ} {w : List ℕ} {count : ℕ} where
-  pub tree_stops₁ : {number : ℕ} → field_at s at 0 M ≡ refused number → TreeRead M s at n w w count (Refused number)
-  tree_stops₁ e = record { frame = frame-refl n w; rest = λ new k wd ht pixels. rw e }
+module _ {M : ℕ} {s : List ℕ} {at n : ℕ} {w : List ℕ} {count : ℕ} {r : Result (Unit {0}) Refusal} where
+  pub tree_stops₁ : Stopped (field_at s at 0 M) r → TreeRead M s at n w w count r
+  tree_stops₁ e = rw e.is record { frame = frame-refl n w; rest = λ new k wd ht pixels. rw e.read }
 
-  pub tree_stops₂ : {level at₁ number : ℕ} → Took s at 0 M level at₁ → field_at s at₁ 1 n ≡ refused number
-      → TreeRead M s at n w w count (Refused number)
-  tree_stops₂ a e = record { frame = frame-refl n w; rest = λ new k wd ht pixels. rw (a.read, pixels, e) }
+  pub tree_stops₂ : {level at₁ : ℕ} → Took s at 0 M level at₁ → Stopped (field_at s at₁ 1 n) r → TreeRead M s at n w w count r
+  tree_stops₂ a e = rw e.is record { frame = frame-refl n w; rest = λ new k wd ht pixels. rw (a.read, pixels, e.read) }
 
 -- the root's fields are read: its level, and the position after its area
 pub record Rooted (M : ℕ) (s : List ℕ) (at n count level next : ℕ) : Type 0 where
@@ -46,36 +47,43 @@ module _ {M : ℕ} {s : List ℕ} {at n count level next : ℕ} (t : Rooted M s 
         rw z (omega (arith, st.put.here, t.low));
   }
 
-  module _ {w₂ : List ℕ} {r : Step} (nodes : NodesRead M s next n w₁ w₂ count r) where
-    levels_are : levels_from M s n (count - 1) (level ∷ []) next ≡ on_step r (good (levels_in n w₂ count))
+  module _ {w₂ : List ℕ} where
+    levels_are : {r : Result ℕ Refusal} → NodesRead M s next n w₁ w₂ count r
+        → levels_from M s n (count - 1) (level ∷ []) next ≡ on_step r (good (levels_in n w₂ count))
     unfolding table span
-    levels_are = rw st.put.here at nodes.rest
+    levels_are nodes = rw st.put.here at nodes.rest
 
-    pub tree_stops₃ : {number : ℕ} → r ≡ Refused number → TreeRead M s at n w w₂ count r
-    tree_stops₃ e = record {
-      frame = frame_trans st.frame nodes.frame;
-      rest = λ new k wd ht pixels. t.parsed new k wd ht pixels ∙ rw (e, pixels, levels_are, e);
-    }
-
-    module _ {at₃ : ℕ} (e : r ≡ Next at₃) {w₃ : List ℕ} {q : Step} (greys : GreysRead s at₃ n w₂ w₃ count q) where
-      kept : Frame n w w₃
-      kept = frame_trans (frame_trans st.frame nodes.frame) greys.frame
-
-      pub tree_stops₄ : {number : ℕ} → q ≡ Refused number → TreeRead M s at n w w₃ count q
-      tree_stops₄ f = record {
-        frame = kept;
-        rest = λ new k wd ht pixels. t.parsed new k wd ht pixels ∙ rw (f, pixels, levels_are, e, pixels, greys.rest, f);
-      }
-
-      module _ {at₄ : ℕ} (f : q ≡ Next at₄) where
-        pub tree_left : at₄ < length s → TreeRead M s at n w w₃ count (Refused 23)
-        tree_left l = record {
-          frame = kept;
-          rest = λ new k wd ht pixels. t.parsed new k wd ht pixels ∙ rw (pixels, levels_are, e, pixels, greys.rest, f, lt-ltb at₄ (length s) l);
+    pub tree_stops₃ : {refusal : Refusal} {q : Result (Unit {0}) Refusal} → NodesRead M s next n w₁ w₂ count (Err refusal) → IsErrAnd q (λ e. e ≡ refusal)
+        → TreeRead M s at n w w₂ count q
+    tree_stops₃ {q = q} nodes same =
+        let e = err_from_is_err_and q same in
+        rw (e.1, e.2) record {
+          frame = frame_trans st.frame nodes.frame;
+          rest = λ new k wd ht pixels. t.parsed new k wd ht pixels ∙ rw (pixels, levels_are nodes);
         }
 
-        pub tree_done : length s ≤ at₄ → TreeRead M s at n w w₃ count (Next at₄)
+    module _ {at₃ : ℕ} (nodes : NodesRead M s next n w₁ w₂ count (Ok at₃)) {w₃ : List ℕ} where
+      kept : {q : Result ℕ Refusal} → GreysRead s at₃ n w₂ w₃ count q → Frame n w w₃
+      kept greys = frame_trans (frame_trans st.frame nodes.frame) greys.frame
+
+      pub tree_stops₄ : {refusal : Refusal} {q : Result (Unit {0}) Refusal} → GreysRead s at₃ n w₂ w₃ count (Err refusal) → IsErrAnd q (λ e. e ≡ refusal)
+          → TreeRead M s at n w w₃ count q
+      tree_stops₄ {q = q} greys same =
+          let e = err_from_is_err_and q same in
+          rw (e.1, e.2) record {
+            frame = kept greys;
+            rest = λ new k wd ht pixels. t.parsed new k wd ht pixels ∙ rw (pixels, levels_are nodes, pixels, greys.rest);
+          }
+
+      module _ {at₄ : ℕ} (greys : GreysRead s at₃ n w₂ w₃ count (Ok at₄)) where
+        pub tree_left : at₄ < length s → TreeRead M s at n w w₃ count (Err RecordLong)
+        tree_left l = record {
+          frame = kept greys;
+          rest = λ new k wd ht pixels. t.parsed new k wd ht pixels ∙ rw (pixels, levels_are nodes, pixels, greys.rest, lt-ltb at₄ (length s) l);
+        }
+
+        pub tree_done : length s ≤ at₄ → TreeRead M s at n w w₃ count (Ok tt)
         tree_done l = record {
-          frame = kept;
-          rest = λ new k wd ht pixels. t.parsed new k wd ht pixels ∙ rw (pixels, levels_are, e, pixels, greys.rest, f, le-ltb at₄ (length s) l);
+          frame = kept greys;
+          rest = λ new k wd ht pixels. t.parsed new k wd ht pixels ∙ rw (pixels, levels_are nodes, pixels, greys.rest, le-ltb at₄ (length s) l);
         }

@@ -95,3 +95,34 @@ varint-most v = groups-most 5 v
 
 pub varint-bytes : (v i : ℕ) → get_or (varint v) i 0 < 256
 varint-bytes v i = groups-bytes 5 v i
+
+-- ---- the size of the form, by the size of the number
+pub size_one : (v : ℕ) → v < 128 → length (varint v) ≡ 1
+size_one v h = rw (groups_low 4 v h)
+
+pub size_two : (v : ℕ) → 128 ≤ v → v < 16384 → length (varint v) ≡ 2
+size_two v a b = rw (groups_high 4 v a, groups_low 3 (v / 128) (omega arith))
+
+pub size_three : (v : ℕ) → 16384 ≤ v → v < 2097152 → length (varint v) ≡ 3
+size_three v a b = rw (groups_high 4 v (omega arith), groups_high 3 (v / 128) (omega arith), groups_low 2 (v / 128 / 128) (omega arith))
+
+pub size_four : (v : ℕ) → 2097152 ≤ v → v < 268435456 → length (varint v) ≡ 4
+size_four v a b =
+    rw (
+      groups_high 4 v (omega arith),
+      groups_high 3 (v / 128) (omega arith),
+      groups_high 2 (v / 128 / 128) (omega arith),
+      groups_low 1 (v / 128 / 128 / 128) (omega arith),
+    )
+
+pub size_five : (v : ℕ) → 268435456 ≤ v → v < field_bound → length (varint v) ≡ 5
+size_five v a b =
+    rw (
+      groups_high 4 v (omega arith),
+      groups_high 3 (v / 128) (omega arith),
+      groups_high 2 (v / 128 / 128) (omega arith),
+      groups_high 1 (v / 128 / 128 / 128) (omega arith),
+      groups_low 0 (v / 128 / 128 / 128 / 128) (omega arith),
+    )
+
+pub ruleset sizes = (size_one, size_two, size_three, size_four, size_five)

@@ -1,20 +1,21 @@
 -- The bytes from a position on, as a field: what each step of finding its end and of spelling its number shows, and the cases of `field_at` by the
 -- tests of the code.
 use mathlib.Core.Path.{◌≡◌, sym, ◌∙◌}
-use mathlib.Core.Logic.{by_cases}
-use mathlib.Core.Bool.{Bool, true, false, ◌&&◌}
+use mathlib.Core.Logic.{by_cases, ◌⊎◌, inl, inr}
+use mathlib.Core.Bool.{true}
 use mathlib.Core.List.{List, [], ◌∷◌}
 use Prim.Native.Nat.{ℕ, zero, suc, ◌+◌, ◌-◌, ◌*◌, ◌≤◌, ◌<◌}
 use native.Mathlib.Omega.{arith}
+use native.Mathlib.Numerals.{add-one}
 use native.Mathlib.Decide.{dec_lt}
-use lib.Dec.{ltb, leb, eqb}
-use lib.ListN.{length, get_or, drop, drop_of_length-le, length-drop}
+use lib.Dec.{ltb, leb}
+use lib.ListN.{length, get_or, drop, length-drop}
 use lib.Seq.{drop-cons, get_or-drop}
-use borrow.Author.Tests.{ltb-true, lt-ltb, leb-true, eqb-true, eqb-false}
+use borrow.Author.Tests.{ltb-true, leb-true}
 use Rattle.meaning.specs.Record.{varint}
 use Rattle.record_varint.specs.Field.{continued, value, starts, field_bound, accepted, refused, field_at}
 use Rattle.record_varint.proofs.Groups.{cap, cap_more, varint-most, continued_low, continued_high, value_low, value_high}
-use Rattle.record_varint.proofs.Starts.{and_left, and_right, and-not}
+use Rattle.record_varint.proofs.Starts.{and-not}
 use Rattle.record_varint.proofs.Form.{Bytes, form_lead, form_last, shortest_form}
 use Rattle.record_varint.proofs.Reading.{field_unended, field-malformed, field_outside, field_accepted}
 
@@ -23,18 +24,17 @@ module _ (s : List ℕ) (i : ℕ) where
   pub continued_here : i < length s → get_or s i 0 < 128 → continued (drop i s) ≡ 0
   continued_here h b = rw (drop-cons s i 0, continued_low)
 
-  pub continued_next : i < length s → 128 ≤ get_or s i 0 → continued (drop i s) ≡ suc (continued (drop (suc i) s))
-  continued_next h b = rw (drop-cons s i 0, continued_high)
-
-  pub continued-none : length s ≤ i → continued (drop i s) ≡ 0
-  unfolding continued
-  continued-none h = rw drop_of_length-le
+  pub continued_next : i < length s → 128 ≤ get_or s i 0 → continued (drop i s) ≡ suc (continued (drop (i + 1) s))
+  continued_next h b = rw (add-one, drop-cons s i 0, continued_high)
 
   value_here : i < length s → get_or s i 0 < 128 → value (drop i s) ≡ get_or s i 0
   value_here h b = rw (drop-cons s i 0, value_low)
 
   value_next : i < length s → 128 ≤ get_or s i 0 → value (drop i s) ≡ (get_or s i 0 - 128) + 128 * value (drop (suc i) s)
   value_next h b = rw (drop-cons s i 0, value_high)
+
+-- what finding the end of a field needs
+pub ruleset end_steps = (continued_here, continued_next)
 
 -- ---- the bytes that continued have the top bit set, and the one after them has not
 continued_high_at : (l : List ℕ) (k : ℕ) → k < continued l → 128 ≤ get_or l k 0
@@ -94,14 +94,7 @@ module _ (s : List ℕ) (at end : ℕ) (h : end < length s) (ends : end ≡ at +
         few = omega (arith, p.few, bytes (i - 1), cap_more (suc (suc (end - i))) (suc (end - (i - 1))) (omega (arith, p.to)));
       }
 
-  pub spelt_all : (i v : ℕ) → FieldSpelt s at end i v → i ≤ at → v ≡ value (drop at s)
-  spelt_all i v p done = let e : i ≡ at = omega (arith, p.from) in rw (← e) p.spells
-
 -- ---- the cases of `field_at`, by the tests of the code
--- the last group is zero, and not the only one
-abbrev pub zero_last : List ℕ → ℕ → ℕ → Bool
-zero_last s at end = ltb at end && eqb (get_or s end 0) 0
-
 -- the bytes from `at` to the end are the form of v
 pub record Formed (s : List ℕ) (at end v : ℕ) : Type 0 where
   pub ends : end ≡ at + continued (drop at s)
@@ -110,8 +103,8 @@ pub record Formed (s : List ℕ) (at end v : ℕ) : Type 0 where
   pub small : v < field_bound
   pub form : starts (varint (value (drop at s))) (drop at s) ≡ true
 
-pub read_unended : (s : List ℕ) (at lo hi end : ℕ) → end ≡ at + continued (drop at s) → length s ≤ end → refused 20 ≡ field_at s at lo hi
-read_unended s at lo hi end ends h = sym (field_unended (drop at s) at lo hi (omega (arith, length-drop at s)))
+pub read_unended : (s : List ℕ) (at lo hi : ℕ) → length s ≤ at + continued (drop at s) → refused 20 ≡ field_at s at lo hi
+read_unended s at lo hi h = sym (field_unended (drop at s) at lo hi (omega (arith, length-drop at s)))
 
 module _ (s : List ℕ) (at end : ℕ) (ends : end ≡ at + continued (drop at s)) (h : end < length s) where
   inside : continued (drop at s) < length (drop at s)
@@ -130,43 +123,35 @@ module _ (s : List ℕ) (at end : ℕ) (ends : end ≡ at + continued (drop at s
     pub read_many : 4 < end - at → refused 21 ≡ field_at s at lo hi
     read_many m = malformed (λ f v. omega (arith, form_lead (drop at s) v f, varint-most (value (drop at s))))
 
-    pub read_zero_last : zero_last s at end ≡ true → refused 21 ≡ field_at s at lo hi
-    read_zero_last z =
-        let several : at < end = ltb-true at end (and_left (ltb at end) _ z) in
-        let zero : get_or s end 0 ≡ 0 = eqb-true (get_or s end 0) 0 (and_right (ltb at end) _ z) in
+    pub read_zero_last : at < end → get_or s end 0 ≡ 0 → refused 21 ≡ field_at s at lo hi
+    read_zero_last several none =
         malformed (λ f v. omega (arith, last, form_last (drop at s) v f (omega arith)))
 
     pub read_large : (v : ℕ) → v ≡ value (drop at s) → field_bound ≤ v → refused 21 ≡ field_at s at lo hi
     read_large v is m = malformed (λ f small. omega arith)
 
   -- no test of the form refuses
-  pub read_formed : (v : ℕ) → v ≡ value (drop at s) → Bytes s → zero_last s at end ≡ false → v < field_bound → Formed s at end v
-  read_formed v is bytes z small = record {
+  pub read_formed : (v : ℕ) → v ≡ value (drop at s) → Bytes s → (at < end → get_or s end 0 ≡ 0 → ⊥) → v < field_bound → Formed s at end v
+  read_formed v is bytes nonzero small = record {
     ends = ends;
     inside = inside;
     spells = is;
     small = small;
     form =
         shortest_form (drop at s) (λ i. rw get_or-drop (bytes (at + i))) inside
-        (λ several. let t : eqb (get_or s end 0) 0 ≡ false = rw (lt-ltb at end (omega arith)) at z in
-        let nonzero : get_or s end 0 ≡ 0 → ⊥ = eqb-false (get_or s end 0) 0 t in
+        (λ several. let some : get_or s end 0 ≡ 0 → ⊥ = nonzero (omega arith) in
         omega (arith, last))
         (omega arith);
   }
 
 module _ (s : List ℕ) (at lo hi end v : ℕ) (f : Formed s at end v) where
-  outside : (lo ≤ v → v ≤ hi → ⊥) → refused 22 ≡ field_at s at lo hi
-  outside not_in =
+  pub read_outside : (v < lo) ⊎ (lo ≤ v) × (hi < v) → refused 22 ≡ field_at s at lo hi
+  read_outside out =
       let is = f.spells in
       sym (field_outside (drop at s) at lo hi f.inside f.form (omega (arith, f.small))
       (and-not (leb lo (value (drop at s))) (leb (value (drop at s)) hi)
-      (λ a b. not_in (omega (arith, leb-true lo (value (drop at s)) a)) (omega (arith, leb-true (value (drop at s)) hi b)))))
-
-  pub read_low : v < lo → refused 22 ≡ field_at s at lo hi
-  read_low l = outside (λ a b. omega arith)
-
-  pub read_high : hi < v → refused 22 ≡ field_at s at lo hi
-  read_high l = outside (λ a b. omega arith)
+      (λ a b. let low = leb-true lo (value (drop at s)) a in let high = leb-true (value (drop at s)) hi b in
+      elim out [ inl h ↦ omega arith | inr h ↦ omega arith ])))
 
   pub read_accepted : lo ≤ v → v ≤ hi → accepted v (end + 1) ≡ field_at s at lo hi
   read_accepted a b =

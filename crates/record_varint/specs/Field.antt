@@ -1,13 +1,11 @@
 -- What reading a field at a position of a record finds, and what comparing one finds: SPECIFICATION 6 and 9.
-use Rattle.std.specs.Prelude.{Bool, true, false, not, ◌&&◌, List, [], ◌∷◌, ℕ, suc, ◌+◌, ◌-◌, ◌*◌, ltb, leb, eqb, length, drop}
+use Rattle.std.specs.Prelude.{◌≡◌, Bool, true, false, not, ◌&&◌, List, [], ◌∷◌, ℕ, suc, ◌+◌, ◌-◌, ◌*◌, ltb, leb, eqb, length, drop, Option, None, Some, Result, Ok, Err}
 use Rattle.meaning.specs.Sets.{pick}
 use Rattle.meaning.specs.Record.{varint}
+use Rattle.refusals.specs.Numbers as numbers
+use Rattle.refusals.specs.declared.Refusal.{Refusal}
 use Rattle.record_varint.specs.declared.Fault.{Fault}
 use Rattle.record_varint.specs.declared.Fault.TheVariants.{Unended, Malformed, OutOfRange}
-use Rattle.record_varint.specs.declared.Field.{Field}
-use Rattle.record_varint.specs.declared.Field.TheVariants.{Value, Refused}
-use Rattle.record_varint.specs.declared.Comparison.{Comparison}
-use Rattle.record_varint.specs.declared.Comparison.TheVariants.{Same, Different}
 
 -- ---- bytes as a field
 
@@ -63,10 +61,14 @@ number_of Unended = 20
 number_of Malformed = 21
 number_of OutOfRange = 22
 
--- what a field that was read says
-abbrev pub reading : Field → Reading
-reading (Value v next) = accepted v next
-reading (Refused fault) = refused (number_of fault)
+-- the refusal of an operation where a field has the fault: its number is that of the fault
+abbrev pub Refuses : Fault → Refusal → Type 0
+Refuses fault refusal = numbers.number_of refusal ≡ number_of fault
+
+-- what an answer of reading says
+abbrev pub reading : Result (ℕ × ℕ) Fault → Reading
+reading (Ok (v, next)) = accepted v next
+reading (Err fault) = refused (number_of fault)
 
 -- ---- comparing
 
@@ -74,7 +76,7 @@ reading (Refused fault) = refused (number_of fault)
 abbrev pub same_at : List ℕ → ℕ → ℕ → Reading
 same_at s at v = pick (starts (varint v) (drop at s)) (accepted v (at + length (varint v))) (refused 24)
 
--- what a comparison with the number v says
-abbrev pub comparison : ℕ → Comparison → Reading
-comparison v (Same next) = accepted v next
-comparison v Different = refused 24
+-- what an answer of comparing with the number v says
+abbrev pub comparison : ℕ → Option ℕ → Reading
+comparison v (Some next) = accepted v next
+comparison v None = refused 24

@@ -6,6 +6,3 @@ use Rattle.record_parse.proofs.read_greys.Given as goal
 
 abbrev pub invariant-loop-p : goal.invariant-loop-p
 invariant-loop-p l = GreysLeft l.s l.start l.n l.initial.work l.work l.count l.p l.at × (l.last ≡ l.count - 1)
-
-abbrev pub decreases-loop-p : goal.decreases-loop-p
-decreases-loop-p l = l.n - l.p

@@ -1,10 +1,6 @@
 -- `record_parse::read_nodes` meets its contract. The invariant: what is left gives what the whole gives (`NodesLeft`).
-use Prim.Native.Nat.{◌-◌}
 use Rattle.record_parse.proofs.Nodes.{NodesLeft}
 use Rattle.record_parse.proofs.read_nodes.Given as goal
 
 abbrev pub invariant-loop-i : goal.invariant-loop-i
 invariant-loop-i l = NodesLeft l.greatest l.s l.start l.n l.initial.work l.work l.count l.i l.at
-
-abbrev pub decreases-loop-i : goal.decreases-loop-i
-decreases-loop-i l = l.count - l.i

@@ -1,47 +1,33 @@
 -- `record_varint::same_field` meets its contract. The loop's invariant: what is left to be compared decides.
 -- Assumes nothing.
-use mathlib.Core.Path.{sym, ◌∙◌}
-use Prim.Native.Nat.{◌+◌, ◌%◌, ◌<◌}
-use borrow.Author.Rules.{rules}
-use borrow.Author.Tests.{not-true, not-false}
-use lib.ListN.{length}
-use Rattle.record_varint.proofs.Comparing.{compared-first, compared_inside, compared-more, compared_differs, compared_same}
-use Rattle.record_varint.proofs.Comparing.{compared_last_differs}
+use Rattle.std.proofs.Common.{◌∙◌, sym}
+use Rattle.record_varint.proofs.Comparing.{compared-more, compared_past, compared_differs, compared_same, compared_last_past, compared_last_differs}
 use Rattle.record_varint.proofs.same_field.Goals as goal
-use mathlib.Core.Path.{ap}
-use mathlib.Core.Bool.{not}
 
-pub loop-x-init : goal.loop-x-init
-loop-x-init c = let a = c.args in compared-first a.s.now a.at a.v (search rules)
+pub returns-in_err-get : goal.returns-in_err-get
+returns-in_err-get c =
+    rw c.from_residual.ensures (compared_past _ _ _ _ _ c.loop-x.invariant c.loop-x-test.true c.in_err-get.ensures.lookup.3)
 
-pub returns-then-not-byte_is : goal.returns-then-not-byte_is
-returns-then-not-byte_is c =
-    compared_differs _ _ _ _ _ c.loop-x.invariant c.loop-x-test.true
-    (sym c.byte_is.ensures ∙ not-true _ (ap not c.if-not-byte_is.true))
-
-pub overflow_add-i : goal.overflow_add-i
-overflow_add-i c =
-    let h : c.loop-x.i < length c.args.s.now =
-    compared_inside _ _ _ _ _ c.loop-x.invariant (128 + c.loop-x.x % 128) (sym c.byte_is.ensures ∙ not-false _ (ap not c.if-not-byte_is.false)) in
-    search rules
+pub returns-then-branch-x : goal.returns-then-branch-x
+returns-then-branch-x c =
+    let byte = c.in_ok-get.ensures.lookup.3 in
+    compared_differs _ _ _ _ _ c.loop-x.invariant c.loop-x-test.true (λ e. c.if-branch-x.true (byte.1 0 ∙ e))
 
 pub loop-x-preserved : goal.loop-x-preserved
 loop-x-preserved c =
-    compared-more _ _ _ _ _ c.loop-x.invariant c.loop-x-test.true
-    (sym c.byte_is.ensures ∙ not-false _ (ap not c.if-not-byte_is.false))
+    let byte = c.in_ok-get.ensures.lookup.3 in
+    compared-more _ _ _ _ _ c.loop-x.invariant c.loop-x-test.true byte.0 (sym (byte.1 0) ∙ c.if-branch-x.false)
 
-pub returns-then-not-byte_is-2 : goal.returns-then-not-byte_is-2
-returns-then-not-byte_is-2 c =
-    compared_last_differs _ _ _ _ _ c.loop-x.invariant c.loop-x-test.false
-    (sym c.byte_is-2.ensures ∙ not-true _ (ap not c.if-not-byte_is-2.true))
+pub returns-in_err-get-2 : goal.returns-in_err-get-2
+returns-in_err-get-2 c =
+    rw c.from_residual-in_err-get-2.ensures (compared_last_past _ _ _ _ _ c.loop-x.invariant c.loop-x-test.false c.in_err-get-2.ensures.lookup.3)
 
-pub overflow_add-result : goal.overflow_add-result
-overflow_add-result c =
-    let h : c.loop-x.i < length c.args.s.now =
-    compared_inside _ _ _ _ _ c.loop-x.invariant c.loop-x.x (sym c.byte_is-2.ensures ∙ not-false _ (ap not c.if-not-byte_is-2.false)) in
-    search rules
+pub returns-then-branch-x-2 : goal.returns-then-branch-x-2
+returns-then-branch-x-2 c =
+    let byte = c.in_ok-get-2.ensures.lookup.3 in
+    compared_last_differs _ _ _ _ _ c.loop-x.invariant c.loop-x-test.false (λ e. c.if-branch-x-2.true (byte.1 0 ∙ e))
 
 pub returns : goal.returns
 returns c =
-    compared_same _ _ _ _ _ c.loop-x.invariant c.loop-x-test.false
-    (sym c.byte_is-2.ensures ∙ not-false _ (ap not c.if-not-byte_is-2.false))
+    let byte = c.in_ok-get-2.ensures.lookup.3 in
+    compared_same _ _ _ _ _ c.loop-x.invariant c.loop-x-test.false byte.0 (sym (byte.1 0) ∙ c.if-branch-x-2.false)

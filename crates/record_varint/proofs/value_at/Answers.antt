@@ -1,14 +1,11 @@
 -- `record_varint::value_at` meets its contract. The loop's invariant: v is the number that the groups from i on spell.
 -- Assumes nothing.
-use Prim.Native.Nat.{◌-◌, ◌≤◌, ◌<◌}
-use native.Mathlib.Omega.{arith}
-use borrow.Author.Rules.{rules}
-use lib.ListN.{get_or}
-use Rattle.record_varint.proofs.Position.{top_set, spelt_last, spelt_small, spelt_back, spelt_all}
+use Rattle.std.proofs.Common.{◌-◌, ◌≤◌, ◌<◌, get_or, arith, rules}
+use Rattle.record_varint.proofs.Position.{top_set, spelt_last, spelt_small, spelt_back}
 use Rattle.record_varint.proofs.value_at.Goals as goal
 
 pub loop-i-init : goal.loop-i-init
-loop-i-init c = spelt_last _ _ _ c.requires.0 c.requires.1 _ c.wide-v.ensures
+loop-i-init c = spelt_last _ _ _ c.requires.0 c.requires.1 _ c.from-v.ensures
 
 pub overflow_mul-v : goal.overflow_mul-v
 overflow_mul-v c =
@@ -28,7 +25,4 @@ overflow_add-v c =
 pub loop-i-preserved : goal.loop-i-preserved
 loop-i-preserved c =
     spelt_back _ _ _ c.requires.0 c.requires.1 _ _ _ (λ k. omega (arith, c.type_inv.s k)) c.loop-i.invariant
-    c.loop-i-test.true c.wide.ensures
-
-pub returns : goal.returns
-returns c = spelt_all _ _ _ c.requires.0 c.requires.1 _ _ c.loop-i.invariant c.loop-i-test.false
+    c.loop-i-test.true c.from.ensures
