@@ -8,20 +8,17 @@ use work_columns::{PixelGrid, Shape};
 
 // Builds the component tree of the greys in the work space; the number of its nodes. The grid is made here, so that the engine has its numbers in
 // registers.
-pub fn build_tree(
-    w: &mut [u32],
-    shape: Shape,
-) -> usize
-    requires { Buildable shape w.old }
-    ensures { Built shape w.old w.new result }
+pub fn build_tree(w: &mut [u32], g: Shape) -> usize
+    requires { Buildable g w.old }
+    ensures { Built g w.old w.new result }
 {
-    let n = shape.pixels;
-    let greatest = shape.greatest;
+    let n = g.pixels;
+    let greatest = g.greatest;
     let g = PixelGrid {
         pixels: n,
-        width: shape.width,
-        height: shape.height,
-        connectivity: shape.connectivity,
+        width: g.width,
+        height: g.height,
+        connectivity: g.connectivity,
     };
     let levels = maxtree_ranks::rank_levels(w, n, greatest);
     flood::flood(w, g, levels);

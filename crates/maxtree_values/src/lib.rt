@@ -61,7 +61,8 @@ fn cut_value(w: &[u32], n: usize, limit: usize, i: usize) -> usize
 pub fn cut_values(w: &mut [u32], t: TreeShape, limit: usize)
     requires tree_stands { TreeStands t.shape w.old t.count }
     requires limit_le_pixels { limit ≤ t.shape.pixels }
-    ensures { ValuesAre t.shape.pixels t.shape.greatest (cut t.shape.connectivity t.shape.width t.shape.height limit (greys_in t.shape.pixels w.old))
+    ensures { ValuesAre t.shape.pixels t.shape.greatest
+        (cut t.shape.connectivity t.shape.width t.shape.height limit (greys_in t.shape.pixels w.old))
         w.old w.new }
 {
     let g = t.shape;
@@ -88,11 +89,14 @@ fn set_ones(w: &mut [u32], g: Shape, count: usize)
 }
 
 // Gives each node that is a parent the value 0, and the others 1: the marks of the plate's regional maxima.
-pub fn mark_leaves(w: &mut [u32], g: Shape, count: usize)
-    requires { TreeStands g w.old count }
-    ensures { ValuesAre g.pixels g.greatest (marks g.connectivity g.width (greys_in g.pixels w.old))
+pub fn mark_leaves(w: &mut [u32], t: TreeShape)
+    requires { TreeStands t.shape w.old t.count }
+    ensures { ValuesAre t.shape.pixels t.shape.greatest
+        (marks t.shape.connectivity t.shape.width (greys_in t.shape.pixels w.old))
         w.old w.new }
 {
+    let g = t.shape;
+    let count = t.count;
     set_ones(w, g, count);
     let mut i: usize = 1;
     while i < count {

@@ -7,7 +7,6 @@ use Prim.Native.Nat.{ℕ, ◌≤◌, ◌<◌}
 use native.Mathlib.Omega.{arith}
 use lib.Dec.{eqb}
 use lib.ListN.{length}
-use borrow.Author.Tests.{ne_eqb}
 use Rattle.meaning.specs.Cut.{cut}
 use Rattle.meaning.specs.Maxima.{marks}
 use Rattle.meaning.specs.Opening.{cleaned, closed, dark_side, opened}
@@ -19,10 +18,11 @@ use Rattle.work_columns.specs.Columns.{Frame, col}
 use Rattle.work_columns.specs.Layout.{greys_in, shape_of, touch_in}
 use Rattle.work_columns.specs.declared.Shape.{Shape}
 use Rattle.work_columns.proofs.Columns.{frame_trans}
-use Rattle.maxtree_columns.specs.Tree.{Tree, nodes_in}
-use Rattle.maxtree_columns.proofs.Tree.{tree_plate}
-use Rattle.maxtree_values.specs.Values.{Delivered, ValuesAre, Writable, values_in}
+use Rattle.maxtree_columns.specs.Tree.{Tree, TreeStands, nodes_in}
+use Rattle.maxtree_columns.proofs.Tree.{tree_here, tree_plate}
+use Rattle.maxtree_values.specs.Values.{Delivered, ValuesAre, values_in}
 use Rattle.plate_greys.specs.Sides.{side_plate}
+use Rattle.plate_refusals.specs.declared.PlateHead.{PlateHead}
 use Rattle.plate_tree.specs.PlateTree.{PlateTree}
 use Rattle.plate_tree.proofs.Building.{cleared_space}
 use Rattle.plate_filter.specs.Operations.{PlateAnswered, column}
@@ -54,50 +54,49 @@ unfolding column
 listed {g} {f} {w} {count} t c of e =
     table_same count (col c g.pixels w) (of g.pixels (touch_in g) (grey f) (nodes_in g f)) e ∙ rw (t.nodes, t.pixels)
 
--- ---- from the plate to the answer, with the shape g that it was given
+-- ---- from the plate to the answer: g is its shape, t the one that its tree was given with
 
-module _ {g : Shape} (k w h M : ℕ) (f : List ℕ) (shape : g ≡ shape_of (length f) w h M k) where
-  pub pixels_are : g.pixels ≡ length f
-  pixels_are = ap (λ (s : Shape). s.pixels) shape
+module _ (plate : PlateHead) (f : List ℕ) {g t : Shape} (shape : g ≡ shape_of (length f) plate.width plate.height plate.greatest plate.connectivity)
+    (same : t ≡ g) where
+  pub pixels_are : t.pixels ≡ length f
+  pixels_are = ap (λ (s : Shape). s.pixels) (same ∙ shape)
 
-  greatest-is : g.greatest ≡ M
-  greatest-is = ap (λ (s : Shape). s.greatest) shape
+  greatest-is : t.greatest ≡ plate.greatest
+  greatest-is = ap (λ (s : Shape). s.greatest) (same ∙ shape)
 
   module _ {negated : Bool} {work w₁ : List ℕ} {count : ℕ} (stood : PlateTree negated g f work w₁ count) where
-    p : PlateTree negated (shape_of (length f) w h M k) f work w₁ count
+    p : PlateTree negated (shape_of (length f) plate.width plate.height plate.greatest plate.connectivity) f work w₁ count
     p = rw shape at stood
 
-    module _ {answer w₂ : List ℕ} (v : ValuesAre g.pixels g.greatest answer w₁ w₂) where
-      pub written_able : Writable (length f) g.greatest w₂
-      written_able = rw pixels_are at v.writable
+    -- the tree stands, of the plate on its side
+    pub stands : TreeStands t w₁ count
+    stands = rw (same ∙ shape) (tree_here p.tree)
 
+    plain : greys_in t.pixels w₁ ≡ side_plate negated plate.greatest f
+    plain = rw (same ∙ shape) (tree_plate p.tree)
+
+    module _ {answer w₂ : List ℕ} (v : ValuesAre t.pixels t.greatest answer w₁ w₂) where
       -- what is left
-      pub answered : {refusal r : ℕ} {out out' w₃ : List ℕ} → r ≡ refusal → r ≡ 0 → Delivered negated (length f) g.greatest w₂ w₃ out out'
-          → PlateAnswered k w h M f refusal (side_plate negated M answer) out out' work w₃ 0
-      answered e z d =
+      pub answered : {refusal : ℕ} {out out' w₃ : List ℕ} → 0 ≡ refusal → Delivered negated (length f) t.greatest w₂ w₃ out out'
+          → PlateAnswered plate.connectivity plate.width plate.height plate.greatest f refusal (side_plate negated plate.greatest answer)
+          out out' work w₃ 0
+      answered e d =
           let written : values_in (length f) w₂ ≡ answer = rw pixels_are at v.by_pixel in
           let frame : Frame (length f) work w₂ = frame_trans p.frame (rw pixels_are at v.frame) in
           record {
-            number = sym z ∙ e;
+            number = e;
             output = d.written ∙ rw (written, greatest-is);
             space = cleared_space p.plate frame d.cleared;
             accepted = λ _. p.plate;
           }
 
-    -- the plate cleaned on a side, and the marks
-    plain : greys_in g.pixels w₁ ≡ side_plate negated M f
-    plain = rw greatest-is at (tree_plate stood.tree)
-
+    -- the plate cleaned on a side
     pub cleaned-is : (side limit : ℕ) → negated ≡ eqb side dark_side → limit ≤ length f
-        → side_plate negated M (cut g.connectivity g.width g.height limit (greys_in g.pixels w₁)) ≡ cleaned side k w h M limit f
-    cleaned-is side limit e l =
-        rw (plain, shape) (side_cut negated side limit f e p.tree.plate (omega (arith, p.tree.pixels)))
+        → side_plate negated plate.greatest (cut t.connectivity t.width t.height limit (greys_in t.pixels w₁))
+        ≡ cleaned side plate.connectivity plate.width plate.height plate.greatest limit f
+    cleaned-is side limit e l = rw (plain, same ∙ shape) (side_cut negated side limit f e p.tree.plate (omega (arith, l, p.tree.pixels)))
 
+  -- the marks of its maxima
   pub marks_are : {work w₁ : List ℕ} {count : ℕ} → PlateTree false g f work w₁ count
-      → marks g.connectivity g.width (greys_in g.pixels w₁) ≡ marks k w f
-  marks_are stood = rw (tree_plate stood.tree, shape)
-
--- a refusal
-pub answered_refused : {k w h M : ℕ} {f : List ℕ} {refusal r : ℕ} {answer out work : List ℕ} → r ≡ refusal → (r ≡ 0 → ⊥)
-    → PlateAnswered k w h M f refusal answer out out work work r
-answered_refused {r = r} e x = record { number = e; output = rw (ne_eqb r 0 x); space = rw (ne_eqb r 0 x); accepted = λ z. absurd (x z) }
+      → marks t.connectivity t.width (greys_in t.pixels w₁) ≡ marks plate.connectivity plate.width f
+  marks_are stood = rw (plain stood, same ∙ shape)

@@ -9,6 +9,10 @@ use lib.ListN.{length, drop, replicate}
 use borrow.Author.Tests.{ne_eqb}
 use Rattle.meaning.specs.Answers.{out_refusal, plate_refusal, work_refusal}
 use Rattle.meaning.specs.Nodes.{nodes_of}
+use Rattle.refusals.specs.declared.Refusal.{Refusal}
+use Rattle.refusals.specs.Numbers.{number_of}
+use Rattle.refusals.proofs.Numbers.{number_nonzero}
+use Rattle.plate_refusals.specs.declared.PlateHead.{PlateHead}
 use Rattle.plate_refusals.proofs.Refusals.{Listable, out_met, out_none, tree_early, tree_first, tree_later, tree_none}
 use Rattle.work_columns.specs.Columns.{Room}
 use Rattle.work_columns.specs.Layout.{shape_of}
@@ -18,72 +22,75 @@ use Rattle.plate_tree.specs.PlateTree.{PlateReady, PlateTree}
 use Rattle.plate_tree.specs.Listing.{ListAnswered, Started, node_list_refusal}
 use Rattle.plate_tree.proofs.Building.{cleared_space, plate_ready}
 
--- r: what was found to be the refusal by 1, 2, 29, 3, 28 and 6
-module _ (k w h M : ℕ) (f work : List ℕ) (places : ℕ) {r : ℕ} (e : r ≡ plate_refusal k w h M f (work_refusal (w * h) (length work) 0)) where
-  -- one of them
-  pub started_refused : (r ≡ 0 → ⊥) → Started k w h M f places work work r 0
+module _ (plate : PlateHead) (f work : List ℕ) (places : ℕ) where
+  -- what its head, its greys and the work space refuse
+  abbrev first_refusal : ℕ
+  first_refusal =
+      plate_refusal plate.connectivity plate.width plate.height plate.greatest f (work_refusal (plate.width * plate.height) (length work) 0)
+
+  abbrev StartedSo : List ℕ → ℕ → ℕ → Type 0
+  StartedSo = Started plate.connectivity plate.width plate.height plate.greatest f places work
+
+  -- 1, 2, 29, 3, 28 or 6
+  pub started_refused : (r : Refusal) → number_of r ≡ first_refusal → StartedSo work (number_of r) 0
   unfolding node_list_refusal
-  started_refused x =
-      let z : eqb r 0 ≡ false = ne_eqb r 0 x in
-      let y : eqb r 5 ≡ false = ne_eqb r 5 (tree_early k w h M f (length work) e) in
+  started_refused r e =
+      let x = number_nonzero r in
+      let z : eqb (number_of r) 0 ≡ false = ne_eqb _ 0 x in
+      let y : eqb (number_of r) 5 ≡ false = ne_eqb _ 5 (tree_early _ _ _ _ f (length work) e) in
       record {
-        number = tree_first k w h M f (length work) e x (length (nodes_of k w f)) places;
+        number = tree_first _ _ _ _ f (length work) e x (length (nodes_of plate.connectivity plate.width f)) places;
         counted = rw z;
         fits = omega arith;
         stopped = λ _. rw (z, y);
         tree_stands = λ u. absurd (x u);
       }
 
-  module _ (z : r ≡ 0) where
-    listable : Listable k w h M f (length work)
-    listable = tree_none k w h M f (length work) e z
+  module _ (e : 0 ≡ first_refusal) where
+    listable : Listable plate.connectivity plate.width plate.height plate.greatest f (length work)
+    listable = tree_none _ _ _ _ f (length work) e refl
 
-    module _ {g : Shape} (shape : g ≡ shape_of (length f) w h M k) where
+    module _ {g : Shape} (shape : g ≡ shape_of (length f) plate.width plate.height plate.greatest plate.connectivity) where
       pub started_ready : PlateReady g f work
       started_ready = plate_ready shape listable.taken listable.space
 
       module _ {w₁ : List ℕ} {count : ℕ} (stood : PlateTree false g f work w₁ count) where
-        p : PlateTree false (shape_of (length f) w h M k) f work w₁ count
+        p : PlateTree false (shape_of (length f) plate.width plate.height plate.greatest plate.connectivity) f work w₁ count
         p = rw shape at stood
 
-        -- there are columns to clear, and the count fits an answer
-        pub started_room : Room w₁ (length f)
-        started_room = p.tree.room
-
+        -- the count fits an answer
         pub started_count : count < 4294967296
         started_count = omega (arith, few_nodes p.tree, p.tree.room.small)
 
-        refusal_is : node_list_refusal k w h M f places (length work) ≡ out_refusal count places 0
+        refusal_is : node_list_refusal plate.connectivity plate.width plate.height plate.greatest f places (length work) ≡ out_refusal count places 0
         unfolding node_list_refusal
-        refusal_is = tree_later listable (length (nodes_of k w f)) places ∙ rw p.tree.nodes
+        refusal_is = tree_later listable (length (nodes_of plate.connectivity plate.width f)) places ∙ rw p.tree.nodes
 
         -- 5: too few places
-        pub started_short : {q : ℕ} {w₂ : List ℕ} → q ≡ out_refusal count places 0 → (q ≡ 0 → ⊥)
-            → w₂ ≡ replicate (8 * length f) 0 ++ drop (8 * length f) w₁ → Started k w h M f places work w₂ q 0
-        started_short q x c = record {
-          number = q ∙ sym refusal_is;
-          counted = rw (ne_eqb _ 0 x);
-          fits = omega arith;
-          stopped = λ _. rw (q ∙ out_met count places (λ u. x (q ∙ u))) (cleared_space p.plate p.frame c);
-          tree_stands = λ u. absurd (x u);
-        }
+        pub started_short : (r : Refusal) {w₂ : List ℕ} → number_of r ≡ out_refusal count places 0
+            → w₂ ≡ replicate (8 * length f) 0 ++ drop (8 * length f) w₁ → StartedSo w₂ (number_of r) 0
+        started_short r e c =
+            let x = number_nonzero r in
+            record {
+              number = e ∙ sym refusal_is;
+              counted = rw (ne_eqb _ 0 x);
+              fits = omega arith;
+              stopped = λ _. rw (e ∙ out_met count places (λ u. x (e ∙ u))) (cleared_space p.plate p.frame c);
+              tree_stands = λ u. absurd (x u);
+            }
 
-        pub started_done : {q : ℕ} → q ≡ out_refusal count places 0 → q ≡ 0 → Started k w h M f places work w₁ 0 count
-        started_done q u = record {
-          number = sym (refusal_is ∙ sym q ∙ u);
+        pub started_done : 0 ≡ out_refusal count places 0 → StartedSo w₁ 0 count
+        started_done e = record {
+          number = e ∙ sym refusal_is;
           counted = p.tree.nodes;
-          fits = (out_none count places 0 (sym q ∙ u)).0;
+          fits = (out_none count places 0 (sym e)).0;
           stopped = λ x. absurd (x refl);
           tree_stands = λ _. p;
         }
 
--- what the list answers
-module _ {k w h M : ℕ} {f work w₁ : List ℕ} {places r count : ℕ} (s : Started k w h M f places work w₁ r count) where
-  pub list_refused : (r ≡ 0 → ⊥) → ListAnswered k w h M f places work w₁ r count
-  list_refused x = record { number = s.number; counted = s.counted; space = s.stopped x; accepted = λ u. absurd (x u) }
-
-  -- with the work space cleared at the end
-  pub list_done : {w₂ : List ℕ} → r ≡ 0 → w₂ ≡ replicate (8 * length f) 0 ++ drop (8 * length f) w₁ → ListAnswered k w h M f places work w₂ r count
-  list_done z c =
-      let p = s.tree_stands z in
-      record { number = s.number; counted = s.counted; space = rw z (cleared_space p.plate p.frame c); accepted = λ _. p.plate }
+-- what a list that is not refused answers, with the work space cleared at the end
+pub list_done : {k w h M : ℕ} {f work w₁ w₂ : List ℕ} {places count : ℕ} → Started k w h M f places work w₁ 0 count
+    → w₂ ≡ replicate (8 * length f) 0 ++ drop (8 * length f) w₁ → ListAnswered k w h M f places work w₂ 0 count
+list_done s c =
+    let p = s.tree_stands refl in
+    record { number = s.number; counted = s.counted; space = cleared_space p.plate p.frame c; accepted = λ _. p.plate }

@@ -1,54 +1,44 @@
 -- `plate_filter::clean` meets its contract.
-use mathlib.Core.Path.{refl, sym, ◌∙◌}
-use Prim.Native.Nat.{◌≤◌}
-use native.Mathlib.Omega.{arith}
-use lib.ListN.{length}
-use Rattle.maxtree_columns.proofs.Tree.{tree_here}
-use Rattle.plate_refusals.proofs.Refusals.{Filterable, clean_none}
+use Rattle.std.proofs.Common.{◌≡◌, ◌∙◌, ℕ, arith, refl, sym}
+use denote.Enum.Bare.{sameb}
+use lib.Dec.{eqb}
+use Rattle.meaning.specs.Opening.{dark_side}
+use Rattle.plate_refusals.specs.Sides.{side_number}
+use Rattle.plate_refusals.specs.contracts.Side.{the_type}
+use Rattle.plate_refusals.specs.declared.Side.{Side}
+use Rattle.plate_refusals.specs.declared.Side.TheVariants.{Dark, Light}
+use Rattle.plate_refusals.proofs.Refusals.{clean_none}
 use Rattle.plate_tree.proofs.Building.{plate_ready}
-use Rattle.plate_filter.proofs.Results.{answered, answered_refused, cleaned-is, pixels_are, written_able}
+use Rattle.plate_filter.proofs.Results.{answered, cleaned-is, pixels_are, stands}
 use Rattle.plate_filter.proofs.clean.Goals as goal
-use Rattle.plate_filter.proofs.clean.Goals.{Else-refusal-ne0}
 
-pub returns-then-refusal-ne0 : goal.returns-then-refusal-ne0
-returns-then-refusal-ne0 c = answered_refused c.clean_refusal-refusal.ensures c.if-refusal-ne0.true
+pub plate_tree-tree-requires : goal.plate_tree-tree-requires
+plate_tree-tree-requires c =
+    let z = (clean_none _ _ _ _ _ _ _ _ _ (sym c.in_ok-chosen.ensures.number)).sizes in plate_ready c.shape.ensures z.taken z.space
 
--- what the sizes say, where nothing is refused
-sized : (c : Else-refusal-ne0)
-    → let s = c.args in
-    Filterable s.connectivity s.width s.height s.greatest s.limit s.image.now (length s.out.now) (length s.work.now)
-sized c = let s = c.args in
-    (clean_none s.side s.connectivity s.width s.height s.greatest s.limit s.image.now (length s.out.now) (length s.work.now)
-    (sym c.clean_refusal-refusal.ensures ∙ c.if-refusal-ne0.false)).sizes
+pub cut_values-requires-clause-tree_stands : goal.cut_values-requires-clause-tree_stands
+cut_values-requires-clause-tree_stands c =
+    stands c.args.plate c.args.image.now c.shape.ensures c.plate_tree-tree.ensures.shape c.plate_tree-tree.ensures.tree
 
-limit-fits : (c : Else-refusal-ne0) → let s = c.args in s.limit ≤ length s.image.now
-limit-fits c = let z = sized c in omega (arith, z.limit_high, z.taken.long)
+pub cut_values-requires-clause-limit_le_pixels : goal.cut_values-requires-clause-limit_le_pixels
+cut_values-requires-clause-limit_le_pixels c =
+    let z = (clean_none _ _ _ _ _ _ _ _ _ (sym c.in_ok-chosen.ensures.number)).sizes in
+    omega (arith, z.limit_high, z.taken.long, pixels_are c.args.plate c.args.image.now c.shape.ensures c.plate_tree-tree.ensures.shape)
 
-pub plate_tree-count-requires : goal.plate_tree-count-requires
-plate_tree-count-requires c =
-    let z = sized (goal.at.plate_tree-count-requires c).Else-refusal-ne0 in plate_ready c.shape_of-g.ensures z.taken z.space
+pub deliver-requires-clause-n_in_bounds : goal.deliver-requires-clause-n_in_bounds
+deliver-requires-clause-n_in_bounds c =
+    let z = (clean_none _ _ _ _ _ _ _ _ _ (sym c.in_ok-chosen.ensures.number)).sizes in omega (arith, z.room, z.taken.long)
 
-pub cut_values-requires : goal.cut_values-requires
-cut_values-requires c =
-    let s = c.args in record {
-      tree_stands = tree_here c.plate_tree-count.ensures.tree;
-      limit_le_pixels = omega (
-        arith,
-        limit-fits (goal.at.cut_values-requires c).Else-refusal-ne0,
-        pixels_are s.connectivity s.width s.height s.greatest s.image.now c.shape_of-g.ensures,
-      );
-    }
-
-pub deliver-requires : goal.deliver-requires
-deliver-requires c =
-    let s = c.args in
-    let z = sized (goal.at.deliver-requires c).Else-refusal-ne0 in
-    record { writable = written_able s.connectivity s.width s.height s.greatest s.image.now c.shape_of-g.ensures c.plate_tree-count.ensures c.cut_values.ensures; n_in_bounds = omega (arith, z.room, z.taken.long) }
+-- the dark side by its number
+dark : (s : Side) {side : ℕ} → side_number s ≡ side → sameb the_type s Dark ≡ eqb side dark_side
+dark Light is = rw (sym is) refl
+dark Dark is = rw (sym is) refl
 
 pub returns : goal.returns
 returns c =
     let s = c.args in
-    rw (← cleaned-is s.connectivity s.width s.height s.greatest s.image.now c.shape_of-g.ensures c.plate_tree-count.ensures s.side s.limit refl
-    (limit-fits (goal.at.returns c).Else-refusal-ne0))
-    (answered s.connectivity s.width s.height s.greatest s.image.now c.shape_of-g.ensures c.plate_tree-count.ensures c.cut_values.ensures
-    c.clean_refusal-refusal.ensures c.if-refusal-ne0.false c.deliver.ensures)
+    let z = (clean_none _ _ _ _ _ _ _ _ _ (sym c.in_ok-chosen.ensures.number)).sizes in
+    let t = c.plate_tree-tree.ensures in
+    let negated = c.eq-negated.ensures ∙ dark c.in_ok-chosen.chosen c.in_ok-chosen.ensures.chosen in
+    rw (← cleaned-is s.plate s.image.now c.shape.ensures t.shape t.tree s.side s.limit negated (omega (arith, z.limit_high, z.taken.long)))
+    (answered s.plate s.image.now c.shape.ensures t.shape t.tree c.cut_values.ensures c.in_ok-chosen.ensures.number c.deliver.ensures)
