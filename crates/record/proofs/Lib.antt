@@ -1,4 +1,3 @@
 -- What the operations on records leave, on each way out.
-pub mod Refused
-pub mod Done
+pub mod Standing
 pub mod Wrote

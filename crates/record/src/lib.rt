@@ -2,11 +2,28 @@
 #![tactic(auto)]
 
 ghost use Rattle.std.specs.Prelude.{◌≡◌, length};
+ghost use Rattle.maxtree_columns.specs.Tree.{TreeStands};
 ghost use Rattle.record_parse.specs.Parse.{read_of};
+ghost use Rattle.record.specs.Answers.{written_answer, read_answer, sizes_answer};
+ghost use Rattle.record.specs.Standing.{TreeWritten, PlateWritten, CutWritten, TreeListed};
 ghost use Rattle.record.specs.Writing.{WrittenRecord};
 ghost use Rattle.record.specs.Reading.{ReadRecord, CutRecord, ListedSizes};
 
-use record_tree::Found;
+use maxtree_columns::TreeShape;
+use plate_refusals::PlateHead;
+use record_tree::FoundTree;
+use refusals::Refusal;
+
+// What the size list gives beside its tables: the plate, the number of nodes, the darkest grey and the grey held on the trim edge.
+#[derive(Clone, Copy, Debug, PartialEq, Eq)]
+pub struct SizeList {
+    pub plate: PlateHead,
+    pub nodes: u32,
+    pub darkest: u32,
+    pub held: u64,
+}
+
+// ---- the answers as the C functions give them: a refusal's number and zeros, or 0 and what is given
 
 // What writing answers: the length of the record, in bytes.
 #[repr(C)]
@@ -14,6 +31,17 @@ use record_tree::Found;
 pub struct Written {
     pub refusal: u32,
     pub length: usize,
+}
+
+impl From<Result<usize, Refusal>> for Written {
+    ghost from_gives = { λ answer r. r ≡ written_answer answer };
+
+    fn from(answer: Result<usize, Refusal>) -> Written {
+        Written {
+            refusal: refusals::number(answer),
+            length: answer.unwrap_or(0),
+        }
+    }
 }
 
 // What reading and cutting answer: the sizes, the greatest grey and the connectivity of the record's plate.
@@ -25,6 +53,26 @@ pub struct Head {
     pub height: u32,
     pub greatest: u32,
     pub connectivity: u32,
+}
+
+impl From<Result<PlateHead, Refusal>> for Head {
+    ghost from_gives = { λ answer r. r ≡ read_answer answer };
+
+    fn from(answer: Result<PlateHead, Refusal>) -> Head {
+        let plate = answer.unwrap_or(PlateHead {
+            width: 0,
+            height: 0,
+            greatest: 0,
+            connectivity: 0,
+        });
+        Head {
+            refusal: refusals::number(answer),
+            width: plate.width,
+            height: plate.height,
+            greatest: plate.greatest,
+            connectivity: plate.connectivity,
+        }
+    }
 }
 
 // What the size list answers: also the number of nodes, the darkest grey and the grey held on the trim edge.
@@ -41,188 +89,144 @@ pub struct SizeHead {
     pub held: u64,
 }
 
-// The answers that refuse: the number, and zeros elsewhere.
-fn refused_written(number: u32) -> Written
-    ensures { result ≡ record { refusal = number; length = 0 } }
-{
-    Written {
-        refusal: number,
-        length: 0,
+impl From<Result<SizeList, Refusal>> for SizeHead {
+    ghost from_gives = { λ answer r. r ≡ sizes_answer answer };
+
+    fn from(answer: Result<SizeList, Refusal>) -> SizeHead {
+        let head = Head::from(answer.map(|list| list.plate));
+        SizeHead {
+            refusal: head.refusal,
+            width: head.width,
+            height: head.height,
+            greatest: head.greatest,
+            connectivity: head.connectivity,
+            nodes: answer.map_or(0, |list| list.nodes),
+            darkest: answer.map_or(0, |list| list.darkest),
+            held: answer.map_or(0, |list| list.held),
+        }
     }
 }
 
-fn refused_head(number: u32) -> Head
-    ensures { result ≡ record { refusal = number; width = 0; height = 0; greatest = 0; connectivity = 0 } }
+// ---- the operations. Each leaves the work space zeroed where its work began
+
+// Writes the record of the tree in the work space; its length.
+fn write_tree(work: &[u32], tree: TreeShape, out: &mut [u8]) -> Result<usize, Refusal>
+    requires { TreeStands tree.shape work.now tree.count }
+    ensures { TreeWritten tree.shape work.now out.old out.new result }
 {
-    Head {
-        refusal: number,
-        width: 0,
-        height: 0,
-        greatest: 0,
-        connectivity: 0,
-    }
+    let size = record_fields::measure(work, tree);
+    plate_refusals::check_out(size, out.len())?;
+    record_fields::write(work, tree, out);
+    Ok(size)
 }
 
-fn refused_sizes(number: u32) -> SizeHead
-    ensures { result ≡ record { refusal = number; width = 0; height = 0; greatest = 0; connectivity = 0; nodes = 0; darkest = 0; held = 0 } }
-{
-    SizeHead {
-        refusal: number,
-        width: 0,
-        height: 0,
-        greatest: 0,
-        connectivity: 0,
-        nodes: 0,
-        darkest: 0,
-        held: 0,
-    }
-}
-
-// Writes the record of a plate with its connectivity, in the new form.
+// Writes the record of a plate with its connectivity, in the new form; its length in bytes.
 pub fn write_record(
     image: &[u16],
-    width: u32,
-    height: u32,
-    greatest: u32,
-    connectivity: u32,
+    plate: PlateHead,
     out: &mut [u8],
     work: &mut [u32],
-) -> Written
-    ensures { WrittenRecord connectivity width height greatest image.now
-        out.old out.new work.old work.new result }
+) -> Result<usize, Refusal>
+    ensures { WrittenRecord plate.connectivity plate.width plate.height plate.greatest image.now
+        out.old out.new work.old work.new (written_answer result) }
 {
-    let n = image.len();
-    let refusal = plate_refusals::tree_refusal(
-        connectivity,
-        width,
-        height,
-        greatest,
-        image,
-        work.len(),
-    );
-    if refusal != 0 {
-        return refused_written(refusal);
-    }
-    let g = work_columns::shape_of(n, width, height, greatest, connectivity);
-    let count = plate_tree::plate_tree(image, false, g, work);
-    let size = record_fields::measure(work, g, count);
-    let short = plate_refusals::out_refusal(size, out.len());
-    if short != 0 {
-        work_columns::clear(work, n);
-        return refused_written(short);
-    }
-    record_fields::write(work, g, count, out);
-    work_columns::clear(work, n);
-    Written {
-        refusal: 0,
-        length: size,
-    }
+    plate_refusals::check_tree(image, plate, work.len())?;
+    let pixels = image.len();
+    let tree = plate_tree::plate_tree(image, false, plate.shape(pixels), work);
+    let written = write_tree(work, tree, out);
+    work_columns::clear(work, pixels);
+    written
+}
+
+// Writes the plate whose tree is in the work space.
+fn write_plate(work: &[u32], found: FoundTree, out: &mut [u16]) -> Result<PlateHead, Refusal>
+    requires { TreeStands found.tree.shape work.now found.tree.count }
+    ensures { PlateWritten found work.now out.old out.new result }
+{
+    let pixels = found.tree.shape.pixels;
+    plate_refusals::check_out(pixels, out.len())?;
+    record_tree::write_greys(work, pixels, out);
+    Ok(found.plate)
 }
 
 // Reads a record of either form: its plate.
-pub fn read_record(bytes: &[u8], out: &mut [u16], work: &mut [u32]) -> Head
+pub fn read_record(bytes: &[u8], out: &mut [u16], work: &mut [u32]) -> Result<PlateHead, Refusal>
     ensures { ReadRecord (read_of bytes.now (length work.old))
-        out.old out.new work.old work.new result }
+        out.old out.new work.old work.new (read_answer result) }
 {
-    let f = record_tree::read_tree(bytes, work);
-    let Found::Tree {
-        new: _,
-        width,
-        height,
-        greatest,
-        connectivity,
-        count: _,
-    } = f
-    else {
-        return refused_head(record_tree::give_up(f, work));
-    };
-    let n = (width * height) as usize;
-    let refusal = plate_refusals::out_refusal(n, out.len());
-    if refusal != 0 {
-        work_columns::clear(work, n);
-        return refused_head(refusal);
-    }
-    record_tree::write_greys(work, n, out);
-    work_columns::clear(work, n);
-    Head {
-        refusal: 0,
-        width: width,
-        height: height,
-        greatest: greatest,
-        connectivity: connectivity,
-    }
+    let found = record_tree::read_tree(bytes, work)?;
+    let read = write_plate(work, found, out);
+    work_columns::clear(work, found.tree.shape.pixels);
+    read
+}
+
+// Writes the cut, at a limit, of the plate whose tree is in the work space.
+fn write_cut(
+    work: &mut [u32],
+    found: FoundTree,
+    limit: u32,
+    out: &mut [u16],
+) -> Result<PlateHead, Refusal>
+    requires { TreeStands found.tree.shape work.old found.tree.count }
+    ensures { CutWritten found limit work.old work.new out.old out.new result }
+{
+    let shape = found.tree.shape;
+    plate_refusals::check_cut(limit, shape.pixels, out.len())?;
+    maxtree_values::cut_values(work, found.tree, limit as usize);
+    maxtree_values::write_values(work, shape.pixels, false, shape.greatest, out);
+    Ok(found.plate)
 }
 
 // Cuts a record at a limit.
-pub fn cut_record(bytes: &[u8], limit: u32, out: &mut [u16], work: &mut [u32]) -> Head
+pub fn cut_record(
+    bytes: &[u8],
+    limit: u32,
+    out: &mut [u16],
+    work: &mut [u32],
+) -> Result<PlateHead, Refusal>
     ensures { CutRecord (read_of bytes.now (length work.old)) limit
-        out.old out.new work.old work.new result }
+        out.old out.new work.old work.new (read_answer result) }
 {
-    let f = record_tree::read_tree(bytes, work);
-    let Found::Tree {
-        new: _,
-        width,
-        height,
-        greatest,
-        connectivity,
-        count,
-    } = f
-    else {
-        return refused_head(record_tree::give_up(f, work));
-    };
-    let n = (width * height) as usize;
-    let refusal = plate_refusals::cut_refusal(limit, n, out.len());
-    if refusal != 0 {
-        work_columns::clear(work, n);
-        return refused_head(refusal);
-    }
-    let g = work_columns::shape_of(n, width, height, greatest, connectivity);
-    maxtree_values::cut_values(work, g, count, limit as usize);
-    maxtree_values::deliver(work, n, false, g.greatest, out);
-    Head {
-        refusal: 0,
-        width: width,
-        height: height,
-        greatest: greatest,
-        connectivity: connectivity,
-    }
+    let found = record_tree::read_tree(bytes, work)?;
+    let cut = write_cut(work, found, limit, out);
+    work_columns::clear(work, found.tree.shape.pixels);
+    cut
+}
+
+// Lists the sizes of the nodes, off the trim edge, of the tree in the work space.
+fn list_tree(
+    work: &mut [u32],
+    found: FoundTree,
+    counts: &mut [u32],
+    losses: &mut [u64],
+) -> Result<SizeList, Refusal>
+    requires { TreeStands found.tree.shape work.old found.tree.count }
+    ensures { TreeListed found work.old work.new counts.old counts.new losses.old losses.new result }
+{
+    let tree = found.tree;
+    plate_refusals::check_tables(tree.shape.pixels, counts.len(), losses.len())?;
+    let darkest = record_sizes::darkest_of(work, tree);
+    let held = record_sizes::list_sizes(work, tree, counts, losses);
+    Ok(SizeList {
+        plate: found.plate,
+        nodes: tree.count as u32,
+        darkest,
+        held,
+    })
 }
 
 // Lists the sizes of a record's nodes off the trim edge: by area, their number and the grey lost.
-pub fn size_list(bytes: &[u8], counts: &mut [u32], losses: &mut [u64], work: &mut [u32]) -> SizeHead
+pub fn size_list(
+    bytes: &[u8],
+    counts: &mut [u32],
+    losses: &mut [u64],
+    work: &mut [u32],
+) -> Result<SizeList, Refusal>
     ensures { ListedSizes (read_of bytes.now (length work.old))
-        counts.old counts.new losses.old losses.new work.old work.new result }
+        counts.old counts.new losses.old losses.new work.old work.new (sizes_answer result) }
 {
-    let f = record_tree::read_tree(bytes, work);
-    let Found::Tree {
-        new: _,
-        width,
-        height,
-        greatest,
-        connectivity,
-        count,
-    } = f
-    else {
-        return refused_sizes(record_tree::give_up(f, work));
-    };
-    let n = (width * height) as usize;
-    let refusal = plate_refusals::tables_refusal(n, counts.len(), losses.len());
-    if refusal != 0 {
-        work_columns::clear(work, n);
-        return refused_sizes(refusal);
-    }
-    let g = work_columns::shape_of(n, width, height, greatest, connectivity);
-    let darkest = record_sizes::darkest_of(work, g, count);
-    let held = record_sizes::list_sizes(work, g, count, counts, losses);
-    work_columns::clear(work, n);
-    SizeHead {
-        refusal: 0,
-        width: width,
-        height: height,
-        greatest: greatest,
-        connectivity: connectivity,
-        nodes: count as u32,
-        darkest: darkest,
-        held: held,
-    }
+    let found = record_tree::read_tree(bytes, work)?;
+    let listed = list_tree(work, found, counts, losses);
+    work_columns::clear(work, found.tree.shape.pixels);
+    listed
 }

@@ -1,49 +1,69 @@
 -- What converting leaves: on a refusal, and with the record written. P: what reading finds up to 24.
-use mathlib.Core.Path.{◌≡◌, refl, ◌∙◌}
-use mathlib.Core.Bool.{Bool, true, false}
+use mathlib.Core.Path.{◌≡◌, refl, sym, ap, ◌∙◌}
+use mathlib.Core.Bool.{Bool, true, false, beq, not}
 use mathlib.Core.List.{List, ◌++◌}
 use Prim.Native.Nat.{ℕ, ◌*◌, ◌≤◌, ◌<◌}
+use native.Mathlib.Omega.{arith}
+use lib.Dec.{ltb, T, ltb→lt}
 use borrow.Author.Tests.{le-ltb, lt-ltb}
 use lib.ListN.{length, drop, replicate}
-use lib.Seq.{sets}
+use Rattle.std.specs.Prelude.{Result, Err, Ok}
+use Rattle.meaning.specs.Answers.{out_refusal, over}
 use Rattle.meaning.specs.Record.{record_in}
-use Rattle.text_lines.proofs.Pieces.{sets-front}
-use Rattle.work_columns.specs.Columns.{Frame}
+use Rattle.theory_lists.proofs.Tests.{passes}
+use Rattle.refusals.specs.declared.Refusal.{Refusal}
+use Rattle.refusals.specs.Numbers.{number_of}
+use Rattle.refusals.proofs.Numbers.{number_nonzero}
+use Rattle.plate_refusals.proofs.Refusals.{out_met, out_none, refuse_met}
+use Rattle.work_columns.specs.Layout.{greys_in}
+use Rattle.work_columns.specs.declared.Shape.{Shape}
 use Rattle.work_columns.proofs.Columns.{cleared}
-use Rattle.record_parse.specs.Parse.{Parsed, plate}
+use Rattle.record_parse.specs.Parse.{Parsed}
+use Rattle.record_tree.specs.Found.{TreeFound}
+use Rattle.record_tree.specs.declared.FoundTree.{FoundTree}
 use Rattle.record.specs.declared.Written.{Written}
-use Rattle.record.proofs.Refused.{Stopped, unchanged, zeroed}
+use Rattle.record.specs.Answers.{written_answer}
 use Rattle.record_convert.specs.Converting.{Converted, PassedOn, form_fits}
 
 -- ---- bytes that are passed on
 
-pub passed_short : {bytes out : List ℕ} → length out < length bytes → PassedOn bytes out out (record { refusal = 5; length = 0 })
-passed_short {bytes} {out} l = let e = lt-ltb (length out) (length bytes) l in record { answer = rw e; output = rw e }
+-- an output was found to be short
+pub short : (e : Refusal) (needed out : ℕ) → number_of e ≡ out_refusal needed out 0 → (out < needed) × (number_of e ≡ 5)
+short e needed out is =
+    let x : out_refusal needed out 0 ≡ 0 → ⊥ = λ z. number_nonzero e (is ∙ z) in
+    (ltb→lt out needed (passes (refuse_met (ltb out needed) 5 x)), is ∙ out_met needed out x)
 
-pub passed_done : {bytes out out' : List ℕ} {size : ℕ} → length bytes ≤ length out → size ≡ length bytes → out' ≡ sets out 0 bytes
-    → PassedOn bytes out out' (record { refusal = 0; length = size })
-passed_done {bytes} {out} l e d =
-    let z = le-ltb (length out) (length bytes) l in
-    record { answer = rw (z, e); output = rw z (d ∙ sets-front bytes out l) }
+pub passed_short : (e : Refusal) (bytes out : List ℕ) → (length out < length bytes) × (number_of e ≡ 5)
+    → PassedOn bytes out out (written_answer (Err e))
+passed_short e bytes out (l, five) = let z = lt-ltb (length out) (length bytes) l in record { answer = rw (z, five); output = rw z }
 
--- ---- a record that is refused up to 24
+pub passed_done : (bytes out : List ℕ) (size : ℕ) {out' : List ℕ} → length bytes ≤ length out → size ≡ length bytes → out' ≡ over bytes out
+    → PassedOn bytes out out' (written_answer (Ok size))
+passed_done bytes out size l e d = let z = le-ltb (length out) (length bytes) l in record { answer = rw (z, e); output = rw z d }
 
-pub converted_stopped : {new : Bool} {P : Parsed} {work w₂ : List ℕ} {number : ℕ} (out : List ℕ) → Stopped P work w₂ number
-    → Converted new P out out work w₂ (record { refusal = number; length = 0 })
-converted_stopped out unchanged = record { answer = refl; output = refl; space = refl }
-converted_stopped out (zeroed c) = record { answer = refl; output = refl; space = c }
+-- ---- the record of a plate that was found
 
--- ---- the record of a plate, in the form `was`
+-- 5, or the record in the form that was asked for
+pub converted_passed : {new : Bool} {P : Parsed} {work w₁ w₂ : List ℕ} {t : FoundTree} (found : TreeFound P work w₁ t)
+    → w₂ ≡ replicate (8 * t.tree.shape.pixels) 0 ++ drop (8 * t.tree.shape.pixels) w₁ → {bytes out out' : List ℕ} {r : Written}
+    → form_fits new t.plate.greatest ≡ true
+    → bytes ≡ record_in new t.plate.connectivity t.plate.width t.plate.height t.plate.greatest (greys_in (t.plate.width * t.plate.height) w₁)
+    → PassedOn bytes out out' r → Converted new P out out' work w₂ r
+converted_passed {new} {work = work} {w₁} {w₂} {t} found c {bytes} {out} {out'} {r} e same p =
+    let pixels : t.tree.shape.pixels ≡ t.plate.width * t.plate.height = ap (λ (s : Shape). s.pixels) found.shape in
+    let q : PassedOn (record_in new t.plate.connectivity t.plate.width t.plate.height t.plate.greatest (greys_in (t.plate.width * t.plate.height) w₁))
+    out out' r = rw same at p in
+    rw found.is (record { answer = rw e q.answer; output = rw e q.output; space = cleared found.frame (rw pixels at c) })
 
-module _ {new was : Bool} {P : Parsed} {k w h M : ℕ} {f : List ℕ} (is : P ≡ plate was k w h M f) {work w₁ w₂ : List ℕ}
-    (fr : Frame (w * h) work w₁) (c : w₂ ≡ replicate (8 * (w * h)) 0 ++ drop (8 * (w * h)) w₁) where
-  -- 30
-  pub converted-none : (out : List ℕ) → form_fits new M ≡ false → Converted new P out out work w₂ (record { refusal = 30; length = 0 })
-  converted-none out e = rw is (record { answer = rw e; output = rw e; space = cleared fr c })
+-- the form of the record is the one that was asked for, or the other one
+pub form_same : (was new : Bool) → beq was new ≡ true → was ≡ new
+form_same true true e = refl
+form_same true false e = sym e
+form_same false true e = e
+form_same false false e = refl
 
-  -- 5, or the record in the form that was asked for
-  pub converted_passed : {bytes out out' : List ℕ} {r : Written} → form_fits new M ≡ true → bytes ≡ record_in new k w h M f → PassedOn bytes out out' r
-      → Converted new P out out' work w₂ r
-  converted_passed {bytes} {out} {out'} {r} e same p =
-      let q : PassedOn (record_in new k w h M f) out out' r = rw same at p in
-      rw is (record { answer = rw e q.answer; output = rw e q.output; space = cleared fr c })
+pub form_other : (was new : Bool) → beq was new ≡ false → was ≡ not new
+form_other true true e = e
+form_other true false e = refl
+form_other false true e = refl
+form_other false false e = sym e
