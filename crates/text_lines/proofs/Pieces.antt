@@ -1,12 +1,12 @@
 -- Text put piece by piece.
 use mathlib.Core.Path.{◌≡◌, refl, sym, ap, ◌∙◌}
 use mathlib.Core.List.{List, [], ◌∷◌, ◌++◌, append_assoc, append-nil}
-use Prim.Native.Nat.{ℕ, suc, ◌+◌, ◌≤◌, ◌<◌}
+use Prim.Native.Nat.{ℕ, suc, ◌+◌, ◌-◌, ◌≤◌}
 use native.Mathlib.Nat.{add-zero, add-suc, suc-add, zero-add}
 use native.Mathlib.Omega.{arith}
-use native.Mathlib.Numerals.{add-one}
-use lib.ListN.{drop, get_or, length, length-append, length-set, set, take}
-use lib.Seq.{length-sets, length-take-le, sets, sets-eq, take_all, take_at, take-suc}
+use lib.ListN.{drop, length, length-append, set, take}
+use lib.Seq.{length-sets, sets, sets-eq, drop-drop, take_at}
+use borrow.Rule.Slice.PartMut.{put_mid}
 use Rattle.text_lines.specs.Lines.{PutText, field, further, line}
 
 -- two runs of stores are one
@@ -41,33 +41,20 @@ put_front {text} {bytes} p =
 pub put_nothing : (text : List ℕ) (at : ℕ) → at ≤ length text → PutText text at [] text at
 put_nothing text at l = record { after = sym (add-zero at); room = l; stored = refl }
 
--- ---- a word, byte by byte
-
--- i bytes are put
-pub record Putting (text : List ℕ) (at : ℕ) (word text' : List ℕ) (i : ℕ) : Type 0 where
-  pub within : i ≤ length word
-  pub room : at + length word ≤ length text
-  pub long : length text' ≡ length text
-  pub stored : text' ≡ sets text at (take i word)
-
-module _ {text text' word : List ℕ} {at i : ℕ} (p : Putting text at word text' i) where
-  pub putting_more : i < length word → Putting text at word (set text' (at + i) (get_or word i 0)) (i + 1)
-  putting_more l = record {
-    within = omega arith;
-    room = p.room;
-    long = length-set text' (at + i) (get_or word i 0) ∙ p.long;
-    stored =
-        rw (add-one i, p.stored, take-suc word i 0)
-        (ap (λ (k : ℕ). set (sets text at (take i word)) (at + k) (get_or word i 0)) (sym (length-take-le i word p.within))
-        ∙ sets-sets text at (take i word) (get_or word i 0 ∷ []));
-  }
-
-  pub putting_done : length word ≤ i → PutText text at word text' (at + i)
-  putting_done l = record { after = omega (arith, p.within); room = omega (arith, p.room, p.within); stored = p.stored ∙ rw (take_all i word l) }
+-- a word is copied into the part of the text behind the place `at`
+pub put_copied : (text : List ℕ) (at : ℕ) (word : List ℕ) {copied : List ℕ} → copied ≡ word → at + length word ≤ length text
+    → PutText text at word (put_mid at ((at + length word) - at) text copied) (at + length word)
+put_copied text at word e l =
+    let k : (at + length word) - at ≡ length word = omega arith in
+    record {
+      after = refl;
+      room = l;
+      stored = rw (k, e, drop-drop (length word) at text) (sym (sets-eq word text at l ∙ append_assoc (take at text) word _));
+    }
 
 -- ---- a line, field by field
 
-further-more : (vs : List ℕ) (v : ℕ) → further vs ++ field v ≡ further (vs ++ (v ∷ []))
+pub further-more : (vs : List ℕ) (v : ℕ) → further vs ++ field v ≡ further (vs ++ (v ∷ []))
 unfolding further
 further-more [] v = sym (append-nil (field v))
 further-more (u ∷ vs) v = append_assoc (field u) (further vs) (field v) ∙ ap (λ (l : List ℕ). field u ++ l) (further-more vs v)
