@@ -3,12 +3,12 @@
 #![tactic(auto)]
 
 use std::io;
-use test_case_lines::lists::{print_bar, print_number, print_words};
+use test_case_lines::lists::{print_bar, print_number, print_numbers};
 
 fn print_node(rt: &impl Print, node: plate_entries::Node) -> io::Result<()> {
     let numbers = [node.level, node.parent, node.area, node.anchor];
     print_bar(rt)?;
-    print_words(rt, &numbers)
+    print_numbers(rt, &numbers)
 }
 
 fn print_list(rt: &impl Print, list: [plate_entries::Node; 6]) -> io::Result<()> {
