@@ -7,7 +7,8 @@ use Rattle.text_lines.specs.declared.Text.{Text}
 abbrev pub HasRoom : Text → ℕ → Type 0
 HasRoom t n = t.length + n ≤ length t.bytes.now
 
--- the bytes were put after those that stood there, and the text still goes into the same slice
+-- the bytes were put after those that stood there, and the text still goes into the same slice, as long as it was
 pub record Puts (t : Text) (bytes : List ℕ) (t' : Text) : Type 0 where
   pub same_reference : t'.bytes.ghost_name ≡ t.bytes.ghost_name
+  pub same_length : length t'.bytes.now ≡ length t.bytes.now
   pub put : PutText t.bytes.now t.length bytes t'.bytes.now t'.length
