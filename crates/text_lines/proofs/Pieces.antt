@@ -1,11 +1,12 @@
 -- Text put piece by piece.
 use mathlib.Core.Path.{◌≡◌, refl, sym, ap, ◌∙◌}
 use mathlib.Core.List.{List, [], ◌∷◌, ◌++◌, append_assoc, append-nil}
-use Prim.Native.Nat.{ℕ, suc, ◌+◌, ◌-◌, ◌≤◌}
+use Prim.Native.Nat.{ℕ, suc, ◌+◌, ◌-◌, ◌≤◌, ◌<◌}
 use native.Mathlib.Nat.{add-zero, add-suc, suc-add, zero-add}
 use native.Mathlib.Omega.{arith}
-use lib.ListN.{drop, length, length-append, set, take}
-use lib.Seq.{length-sets, sets, sets-eq, drop-drop, take_at}
+use native.Mathlib.Numerals.{add-one}
+use lib.ListN.{drop, get_or, length, length-append, length-set, set, take}
+use lib.Seq.{length-sets, length-take-le, sets, sets-eq, drop-drop, take_all, take_at, take-suc}
 use borrow.Rule.Slice.PartMut.{put_mid}
 use Rattle.text_lines.specs.Lines.{PutText, field, further, line}
 
@@ -51,6 +52,30 @@ put_copied text at word e l =
       room = l;
       stored = rw (k, e, drop-drop (length word) at text) (sym (sets-eq word text at l ∙ append_assoc (take at text) word _));
     }
+
+-- ---- a word, byte by byte, as a loop puts it
+
+-- i bytes are put
+pub record Putting (text : List ℕ) (at : ℕ) (word text' : List ℕ) (i : ℕ) : Type 0 where
+  pub within : i ≤ length word
+  pub room : at + length word ≤ length text
+  pub long : length text' ≡ length text
+  pub stored : text' ≡ sets text at (take i word)
+
+module _ {text text' word : List ℕ} {at i : ℕ} (p : Putting text at word text' i) where
+  pub putting_more : i < length word → Putting text at word (set text' (at + i) (get_or word i 0)) (i + 1)
+  putting_more l = record {
+    within = omega arith;
+    room = p.room;
+    long = length-set text' (at + i) (get_or word i 0) ∙ p.long;
+    stored =
+        rw (add-one i, p.stored, take-suc word i 0)
+        (ap (λ (k : ℕ). set (sets text at (take i word)) (at + k) (get_or word i 0)) (sym (length-take-le i word p.within))
+        ∙ sets-sets text at (take i word) (get_or word i 0 ∷ []));
+  }
+
+  pub putting_done : length word ≤ i → PutText text at word text' (at + i)
+  putting_done l = record { after = omega (arith, p.within); room = omega (arith, p.room, p.within); stored = p.stored ∙ rw (take_all i word l) }
 
 -- ---- a line, field by field
 
