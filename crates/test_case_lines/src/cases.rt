@@ -1,6 +1,6 @@
 // A case of the program `test_vectors`: a line taken apart. It is the operation's name and then fields, each a word and the numbers up to the next
 // word, in decimal and parted by one space; `v*n` stands for n numbers v.
-ghost use Rattle.std.specs.Prelude.{◌≤◌, length};
+ghost use Rattle.std.specs.Prelude.{◌≡◌, ◌≤◌, ◌<◌, length, take, IfSome};
 ghost use Rattle.test_case_lines.specs.Places.{Behind};
 
 // A number, whether a star follows it, and the place after the byte that follows.
@@ -11,25 +11,21 @@ struct Number {
     next: usize,
 }
 
-// Some numbers of one value, and the place after them.
+// A number that stands some times in a row, and the place after it.
 #[derive(Clone, Copy)]
-struct Run {
+struct Repeat {
     value: u16,
     count: u32,
     next: usize,
 }
 
-// The value of a digit; 10 for any other byte.
-fn digit(b: u8) -> u64
-    ensures { result ≤ 10 }
+fn digit(b: u8) -> Option<u64>
+    ensures { IfSome result (λ d. d < 10) }
 {
-    if b < b'0' {
-        return 10;
+    match b {
+        b'0'..=b'9' => Some(u64::from(b - b'0')),
+        _ => None,
     }
-    if b'9' < b {
-        return 10;
-    }
-    (b - b'0') as u64
 }
 
 // The number that begins at `at`, modulo 2^32.
@@ -37,42 +33,40 @@ fn number_at(line: &[u8], at: usize) -> Number
     ensures { Behind at (length line.now) result.next }
 {
     let mut value: u64 = 0;
-    let mut i = at;
-    while i < line.len() {
+    for i in at..line.len() {
         let b = line[i];
-        let d = digit(b);
-        i += 1;
-        if d == 10 {
+        let Some(d) = digit(b) else {
             return Number {
                 value: value as u32,
                 star: b == b'*',
-                next: i,
+                next: i + 1,
             };
-        }
+        };
         value = (value * 10 + d) % 4294967296;
     }
     Number {
         value: value as u32,
         star: false,
-        next: i,
+        next: line.len().max(at),
     }
 }
 
 // The number at `at`, modulo 2^16, and how often it stands.
-fn run_at(line: &[u8], at: usize) -> Run
+fn repeat_at(line: &[u8], at: usize) -> Repeat
     ensures { Behind at (length line.now) result.next }
 {
     let v = number_at(line, at);
+    let value = (v.value % 65536) as u16;
     if !v.star {
-        return Run {
-            value: (v.value % 65536) as u16,
+        return Repeat {
+            value,
             count: 1,
             next: v.next,
         };
     }
     let n = number_at(line, v.next);
-    Run {
-        value: (v.value % 65536) as u16,
+    Repeat {
+        value,
         count: n.value,
         next: n.next,
     }
@@ -83,85 +77,69 @@ fn put_run(greys: &mut [u16], from: usize, value: u16, count: u32) -> usize
     requires { from ≤ length greys.old }
     ensures { result ≤ length greys.old }
 {
-    let mut i = from;
-    let mut left = count;
-    while 0 < left {
-        if greys.len() <= i {
-            return i;
-        }
-        greys[i] = value;
-        i += 1;
-        left -= 1;
-    }
-    i
+    let end = from.saturating_add(count as usize).min(greys.len());
+    greys[from..end].fill(value);
+    end
 }
 
-// The place after the word at `at` and the byte that follows, where that word is `name`, whole; else 0.
-fn word_end(line: &[u8], at: usize, name: &[u8]) -> usize {
-    let mut k = at;
-    let mut i: usize = 0;
-    while i < name.len() {
-        if line.len() <= k {
-            return 0;
-        }
-        if line[k] != name[i] {
-            return 0;
-        }
-        k += 1;
-        i += 1;
+// The place after the word at `at` and the byte that follows, where that word is `name`, whole.
+fn word_end(line: &[u8], at: usize, name: &[u8]) -> Option<usize>
+    requires { at ≤ length line.now }
+    ensures { IfSome result (λ end. end ≤ length line.now) }
+{
+    match line[at..].strip_prefix(name)? {
+        [] => Some(line.len()),
+        [b' ', rest @ ..] => Some(line.len() - rest.len()),
+        _ => None,
     }
-    if line.len() <= k {
-        return k;
-    }
-    if line[k] == b' ' { k + 1 } else { 0 }
 }
 
-// Whether the operation's name is `name`.
-pub fn is_named(line: &[u8], name: &[u8]) -> bool {
-    word_end(line, 0, name) != 0
-}
-
-// Where the numbers of the field `name` begin; the line's length where it is absent.
-fn field_at(line: &[u8], name: &[u8]) -> usize {
-    let mut i: usize = 0;
-    while i < line.len() {
-        let b = line[i];
-        i += 1;
-        if b == b' ' {
-            let end = word_end(line, i, name);
-            if end != 0 {
+// Where the numbers of the field `name` begin.
+fn field_at(line: &[u8], name: &[u8]) -> Option<usize> {
+    for (i, b) in line.iter().enumerate() {
+        if *b == b' ' {
+            let end = word_end(line, i + 1, name);
+            if end.is_some() {
                 return end;
             }
         }
     }
-    i
+    None
+}
+
+// The operation's name: what stands in front of the first space.
+pub fn name(line: &[u8]) -> &[u8]
+    ensures { result.now ≡ take (length result.now) line.now }
+{
+    match line.iter().position(|b| *b == b' ') {
+        Some(end) => &line[..end],
+        None => line,
+    }
 }
 
 // The number of the field `name`; 0 where it is absent.
 pub fn field(line: &[u8], name: &[u8]) -> u32 {
-    let number = number_at(line, field_at(line, name));
-    number.value
+    match field_at(line, name) {
+        Some(at) => number_at(line, at).value,
+        None => 0,
+    }
 }
 
-// Width, height, greatest grey and connectivity of a plate.
+// The fields of a plate that are one number each.
 #[derive(Clone, Copy)]
-pub struct Shape {
+pub struct PlateFields {
     pub width: u32,
     pub height: u32,
     pub greatest: u32,
     pub connectivity: u32,
 }
 
-pub fn shape_of(line: &[u8]) -> Shape {
-    let width = field(line, b"width");
-    let height = field(line, b"height");
-    let greatest = field(line, b"greatest");
-    let connectivity = field(line, b"connectivity");
-    Shape {
-        width: width,
-        height: height,
-        greatest: greatest,
-        connectivity: connectivity,
+pub fn plate_fields(line: &[u8]) -> PlateFields {
+    PlateFields {
+        width: field(line, b"width"),
+        height: field(line, b"height"),
+        greatest: field(line, b"greatest"),
+        connectivity: field(line, b"connectivity"),
     }
 }
 
@@ -169,44 +147,33 @@ pub fn shape_of(line: &[u8]) -> Shape {
 pub fn places(line: &[u8], name: &[u8], most: usize) -> usize
     ensures { result ≤ most }
 {
-    let wanted = field(line, name) as usize;
-    if most < wanted { most } else { wanted }
+    most.min(field(line, name) as usize)
 }
 
 // Puts the greys of the field `name`, and gives their number.
 pub fn list_greys(line: &[u8], name: &[u8], greys: &mut [u16]) -> usize
     ensures { result ≤ length greys.old }
 {
+    let Some(mut at) = field_at(line, name) else {
+        return 0;
+    };
     let mut n: usize = 0;
-    let mut at = field_at(line, name);
-    while at < line.len() {
-        if digit(line[at]) == 10 {
-            return n;
-        }
-        let run = run_at(line, at);
-        n = put_run(greys, n, run.value, run.count);
-        at = run.next;
+    while at < line.len() && digit(line[at]).is_some() {
+        let repeat = repeat_at(line, at);
+        n = put_run(greys, n, repeat.value, repeat.count);
+        at = repeat.next;
     }
     n
-}
-
-fn low_byte(n: u16) -> u8 {
-    (n % 256) as u8
 }
 
 // Puts the numbers, modulo 2^8, as far as there is room, and gives their number.
 fn put_bytes(numbers: &[u16], bytes: &mut [u8]) -> usize
     ensures { result ≤ length bytes.old }
 {
-    let mut i: usize = 0;
-    while i < numbers.len() {
-        if bytes.len() <= i {
-            return i;
-        }
-        bytes[i] = low_byte(numbers[i]);
-        i += 1;
+    for (byte, number) in bytes.iter_mut().zip(numbers) {
+        *byte = (*number % 256) as u8;
     }
-    i
+    bytes.len().min(numbers.len())
 }
 
 // Puts the bytes of the field `name`, at most 69000, and gives their number.
@@ -223,12 +190,8 @@ pub fn end_at(bytes: &[u8], at: usize, stop: u8) -> usize
     requires { at ≤ length bytes.now }
     ensures { (at ≤ result) × (result ≤ length bytes.now) }
 {
-    let mut i = at;
-    while i < bytes.len() {
-        if bytes[i] == stop {
-            return i;
-        }
-        i += 1;
+    match bytes[at..].iter().position(|b| *b == stop) {
+        Some(i) => at + i,
+        None => bytes.len(),
     }
-    i
 }

@@ -6,11 +6,11 @@ use plate_entries::Node;
 use plate_refusals::PlateHead;
 use plate_tree::NodeList;
 use std::io;
-use test_case_lines::lists::{print_bar, print_number, print_words};
+use test_case_lines::lists::{print_bar, print_number, print_numbers};
 
 fn print_node(rt: &impl Print, node: Node) -> io::Result<()> {
     print_bar(rt)?;
-    print_words(rt, &[node.level, node.parent, node.area, node.anchor])
+    print_numbers(rt, &[node.level, node.parent, node.area, node.anchor])
 }
 
 // Prints what was answered, what the list holds, and the entry that was read.

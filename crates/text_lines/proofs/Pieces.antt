@@ -1,12 +1,13 @@
 -- Text put piece by piece.
 use mathlib.Core.Path.{◌≡◌, refl, sym, ap, ◌∙◌}
 use mathlib.Core.List.{List, [], ◌∷◌, ◌++◌, append_assoc, append-nil}
-use Prim.Native.Nat.{ℕ, suc, ◌+◌, ◌≤◌, ◌<◌}
+use Prim.Native.Nat.{ℕ, suc, ◌+◌, ◌-◌, ◌≤◌, ◌<◌}
 use native.Mathlib.Nat.{add-zero, add-suc, suc-add, zero-add}
 use native.Mathlib.Omega.{arith}
 use native.Mathlib.Numerals.{add-one}
 use lib.ListN.{drop, get_or, length, length-append, length-set, set, take}
-use lib.Seq.{length-sets, length-take-le, sets, sets-eq, take_all, take_at, take-suc}
+use lib.Seq.{length-sets, length-take-le, sets, sets-eq, drop-drop, take_all, take_at, take-suc}
+use borrow.Rule.Slice.PartMut.{put_mid}
 use Rattle.text_lines.specs.Lines.{PutText, field, further, line}
 
 -- two runs of stores are one
@@ -41,7 +42,18 @@ put_front {text} {bytes} p =
 pub put_nothing : (text : List ℕ) (at : ℕ) → at ≤ length text → PutText text at [] text at
 put_nothing text at l = record { after = sym (add-zero at); room = l; stored = refl }
 
--- ---- a word, byte by byte
+-- a word is copied into the part of the text behind the place `at`
+pub put_copied : (text : List ℕ) (at : ℕ) (word : List ℕ) {copied : List ℕ} → copied ≡ word → at + length word ≤ length text
+    → PutText text at word (put_mid at ((at + length word) - at) text copied) (at + length word)
+put_copied text at word e l =
+    let k : (at + length word) - at ≡ length word = omega arith in
+    record {
+      after = refl;
+      room = l;
+      stored = rw (k, e, drop-drop (length word) at text) (sym (sets-eq word text at l ∙ append_assoc (take at text) word _));
+    }
+
+-- ---- a word, byte by byte, as a loop puts it
 
 -- i bytes are put
 pub record Putting (text : List ℕ) (at : ℕ) (word text' : List ℕ) (i : ℕ) : Type 0 where
@@ -67,7 +79,7 @@ module _ {text text' word : List ℕ} {at i : ℕ} (p : Putting text at word tex
 
 -- ---- a line, field by field
 
-further-more : (vs : List ℕ) (v : ℕ) → further vs ++ field v ≡ further (vs ++ (v ∷ []))
+pub further-more : (vs : List ℕ) (v : ℕ) → further vs ++ field v ≡ further (vs ++ (v ∷ []))
 unfolding further
 further-more [] v = sym (append-nil (field v))
 further-more (u ∷ vs) v = append_assoc (field u) (further vs) (field v) ∙ ap (λ (l : List ℕ). field u ++ l) (further-more vs v)

@@ -4,7 +4,6 @@ use mathlib.Core.Bool.{true}
 use mathlib.Core.List.{List, [], ◌∷◌, ◌++◌}
 use Prim.Native.Nat.{ℕ, suc, ◌+◌, ◌-◌, ◌*◌, ◌≤◌, ◌<◌}
 use native.Mathlib.Nat.{le_trans}
-use native.Mathlib.Numerals.{add-one}
 use native.Mathlib.Omega.{arith}
 use borrow.Author.Tests.{le-ltb, lt-ltb}
 use lib.ListN.{drop, length, length-append, take, get_or-append}
@@ -35,15 +34,14 @@ use Rattle.text_plate.specs.Text.{area_line, head_line, held_line, most_pixels, 
 -- ---- the lines of areas
 
 -- an area without nodes has no line
-pub size_none : (counted lost : List ℕ) (i : ℕ) → nth counted i ≡ 0 → size_line counted lost i ≡ []
+pub area_none : (area count lost : ℕ) → count ≡ 0 → area_line area count lost ≡ []
 unfolding area_line
-size_none counted lost i e = rw (le-ltb 0 (nth counted i) (omega arith))
+area_none area count lost e = rw (le-ltb 0 count (omega arith))
 
 -- any other has one
-pub size_some : (counted lost : List ℕ) (i : ℕ) → (nth counted i ≡ 0 → ⊥)
-    → size_line counted lost i ≡ line (decimal (i + 1)) (nth counted i ∷ nth lost i ∷ [])
+pub area_some : (area count lost : ℕ) → (count ≡ 0 → ⊥) → area_line area count lost ≡ line (decimal area) (count ∷ lost ∷ [])
 unfolding area_line
-size_some counted lost i e = rw (lt-ltb 0 (nth counted i) (omega arith), add-one i)
+area_some area count lost e = rw (lt-ltb 0 count (omega arith))
 
 -- what stands after a table's answer has no line
 sizes_over : (n : ℕ) (counted lost out out' : List ℕ) → length counted ≡ n → length lost ≡ n

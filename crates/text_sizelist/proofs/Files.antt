@@ -6,21 +6,22 @@ use native.Mathlib.Omega.{arith}
 use borrow.Author.Tests.{eq-eqb, le-ltb, lt-ltb, ne_eqb}
 use lib.ListN.{drop, length, length-append, take}
 use lib.Seq.{take_at}
-use Rattle.meaning.specs.Answers.{out_after, over}
+use Rattle.meaning.specs.Answers.{out_after}
 use Rattle.pgm.specs.File.{plate_of, read_pgm}
 use Rattle.pgm.specs.declared.PgmRead.{PgmRead}
 use Rattle.pgm.proofs.Readable.{Readable}
 use Rattle.pgm.proofs.Reading.{file_readable}
 use Rattle.text_lines.specs.Lines.{PutText}
 use Rattle.text_lines.proofs.Pieces.{sets-front}
-use Rattle.text_sizelist.specs.Text.{answer_text, most_pixels, input_bytes, plate_text, refused_text, size_text}
+use Rattle.text_plate.specs.Text.{most_pixels, plate_text}
+use Rattle.text_sizelist.specs.Text.{answer_text, input_bytes, refused_text, size_text}
 use Rattle.text_sizelist.specs.Pieces.{Made}
 
 -- a text that was put from its first place on
-pub made : {text text' bytes answer : List ℕ} {r : ℕ} → PutText text 0 bytes text' r → bytes ≡ answer → Made answer text text' r
-made {text} {bytes = bytes} p e = record {
-  long = omega (arith, p.after, ap length e);
-  output = p.stored ∙ sets-front bytes text (omega (arith, p.after, p.room)) ∙ ap (λ (b : List ℕ). over b text) e;
+pub made : {text text' answer : List ℕ} {r : ℕ} → PutText text 0 answer text' r → Made answer text text' r
+made {text} {answer = answer} p = record {
+  long = omega (arith, p.after);
+  output = p.stored ∙ sets-front answer text (omega (arith, p.after, p.room));
 }
 
 -- ---- the three ways

@@ -1,4 +1,3 @@
 -- The definition computed on files, and the laws of its pieces.
-pub mod Plates
 pub mod Files
 pub mod Examples

@@ -1,39 +1,16 @@
 -- `text_plate::put_size` meets its contract: nothing, or the line field by field.
-use native.Mathlib.Omega.{arith}
-use Rattle.meaning.specs.Sets.{nth}
-use Rattle.text_lines.proofs.Pieces.{and-field, begin, end_line, put_nothing}
-use Rattle.text_plate.proofs.Plates.{size_none, size_some}
+use Rattle.std.proofs.Common.{arith, refl}
+use Rattle.text_lines.proofs.Texts.{begin_line, next_field, puts_nothing, whole_line}
+use Rattle.text_plate.proofs.Plates.{area_none, area_some}
 use Rattle.text_plate.proofs.put_size.Goals as goal
 
-pub returns-then-count-eq0 : goal.returns-then-count-eq0
-returns-then-count-eq0 c =
-    let s = c.args in
-    record {
-      put_text = rw (size_none s.counts.now s.losses.now s.i c.if-count-eq0.true)
-          (put_nothing s.text.now s.at (omega (arith, c.requires.at_in_bounds)));
-      upper_bound = omega arith;
-    }
+pub returns-then-count-eq0-clause-puts : goal.returns-then-count-eq0-clause-puts
+returns-then-count-eq0-clause-puts c =
+    let a = c.args in
+    rw (area_none a.area a.count a.lost c.if-count-eq0.true) (puts_nothing a.text.now (omega (arith, c.requires)))
 
-pub overflow_cast-count : goal.overflow_cast-count
-overflow_cast-count c =
-    omega (
-      arith,
-      c.type_inv.counts
-          c.args.i,
-    )
-
-pub returns : goal.returns
-returns c =
-    let s = c.args in
-    let b = and-field (begin c.put_decimal-second.ensures.put_text) (nth s.counts.now s.i) c.put_field-third.ensures.put_text in
-    let l = end_line (and-field b (nth s.losses.now s.i) c.put_field-end.ensures.put_text) c.put_end.ensures in
-    record {
-      put_text = rw (size_some s.counts.now s.losses.now s.i c.if-count-eq0.false) l;
-      upper_bound = omega (
-        arith,
-        c.put_decimal-second.ensures.upper_bound,
-        c.put_field-third.ensures.upper_bound,
-        c.put_field-end.ensures.upper_bound,
-        c.put_end.ensures.after,
-      );
-    }
+pub returns-clause-puts : goal.returns-clause-puts
+returns-clause-puts c =
+    let a = c.args in
+    let b = next_field (begin_line c.put_decimal.ensures.puts) c.from.ensures c.put_field.ensures.puts in
+    rw (area_some a.area a.count a.lost c.if-count-eq0.false) (whole_line (next_field b refl c.put_field-2.ensures.puts) c.put_end.ensures)
