@@ -1,4 +1,5 @@
-// The operations for programs in C and Rust: one exported function for each, with the contract of the function that it calls.
+// The operations for programs in C and Rust: one exported function for each. It passes on what it gets, and its contract is the same equation as that of
+// the function that it calls, on the answer laid out for C: a refusal's number, zeros elsewhere.
 // A slice is passed as a pointer and a length. include/livukoe.h declares and describes the functions.
 #![tactic(auto)]
 
@@ -22,6 +23,7 @@ use pgm::PgmRead;
 use pgm_roll::{PlateAt, RollCount};
 use pgm_write::PgmWritten;
 use plate_entries::Node;
+use plate_refusals::PlateHead;
 use plate_tree::NodeList;
 use record::{Head, SizeHead, Written};
 use record_write_cut_list::CutListed;
@@ -42,17 +44,13 @@ pub extern "C" fn livukoe_clean(
     ensures { Cleaned side connectivity width height greatest limit image.now
         out.old out.new work.old work.new result }
 {
-    plate_filter::clean(
-        side,
-        image,
+    let plate = PlateHead {
         width,
         height,
         greatest,
         connectivity,
-        limit,
-        out,
-        work,
-    )
+    };
+    refusals::number(plate_filter::clean(side, image, plate, limit, out, work))
 }
 
 // Marks the regional maxima of a plate: 1 inside one, 0 elsewhere.
@@ -69,7 +67,13 @@ pub extern "C" fn livukoe_regional_maxima(
     ensures { MaximaMarked connectivity width height greatest image.now
         out.old out.new work.old work.new result }
 {
-    plate_filter::regional_maxima(image, width, height, greatest, connectivity, out, work)
+    let plate = PlateHead {
+        width,
+        height,
+        greatest,
+        connectivity,
+    };
+    refusals::number(plate_filter::regional_maxima(image, plate, out, work))
 }
 
 // The nodes of a plate, one column for each of level, parent (0 for the root), area and anchor.
@@ -91,18 +95,13 @@ pub extern "C" fn livukoe_node_list(
         (columns levels.new parents.new areas.new anchors.new)
         work.old work.new result.refusal result.count }
 {
-    plate_filter::node_list(
-        image,
+    let plate = PlateHead {
         width,
         height,
         greatest,
         connectivity,
-        levels,
-        parents,
-        areas,
-        anchors,
-        work,
-    )
+    };
+    NodeList::from(plate_filter::node_list(image, plate, levels, parents, areas, anchors, work))
 }
 
 // The nodes of a plate as entries of one list.
@@ -119,7 +118,13 @@ pub extern "C" fn livukoe_node_entries(
     ensures { EntriesListed connectivity width height greatest image.now list.old list.new
         work.old work.new result.refusal result.count }
 {
-    plate_entries::node_entries(image, width, height, greatest, connectivity, list, work)
+    let plate = PlateHead {
+        width,
+        height,
+        greatest,
+        connectivity,
+    };
+    NodeList::from(plate_entries::node_entries(image, plate, list, work))
 }
 
 // Reads a plate file into the output.
@@ -129,7 +134,7 @@ pub extern "C" fn livukoe_read_pgm(file: &[u8], out: &mut [u16]) -> PgmRead
     ensures out_after { out.new ≡ out_after (read_pgm file.now (length out.old)).refusal
         (plate_of file.now) out.old }
 {
-    pgm::read_pgm(file, out)
+    PgmRead::from(pgm::read_pgm(file, out))
 }
 
 // The number of plates of a roll.
@@ -137,7 +142,7 @@ pub extern "C" fn livukoe_read_pgm(file: &[u8], out: &mut [u16]) -> PgmRead
 pub extern "C" fn livukoe_roll_count(file: &[u8]) -> RollCount
     ensures { result ≡ count_of (roll file.now) }
 {
-    pgm_roll::roll_count(file)
+    RollCount::from(pgm_roll::roll_count(file))
 }
 
 // Reads the plate of a number of a roll into the output.
@@ -147,7 +152,7 @@ pub extern "C" fn livukoe_roll_plate(file: &[u8], number: usize, out: &mut [u16]
     ensures out_after { out.new ≡ out_after (plate_read (roll file.now) number (length out.old)).refusal
         (numbered (roll file.now) number).greys out.old }
 {
-    pgm_roll::roll_plate(file, number, out)
+    PgmRead::from(pgm_roll::roll_plate(file, number, out))
 }
 
 // The plate that begins at a place of a roll.
@@ -155,7 +160,7 @@ pub extern "C" fn livukoe_roll_plate(file: &[u8], number: usize, out: &mut [u16]
 pub extern "C" fn livukoe_plate_at(file: &[u8], at: usize) -> PlateAt
     ensures { result ≡ plate_at file.now at }
 {
-    pgm_roll::plate_at(file, at)
+    PlateAt::from(pgm_roll::plate_at(file, at))
 }
 
 // Writes the plate file of a plate into the output.
@@ -171,7 +176,7 @@ pub extern "C" fn livukoe_write_pgm(
     ensures out_after { out.new ≡ out_after (write_pgm width height greatest image.now (length out.old)).refusal
         (pgm_of width height greatest image.now) out.old }
 {
-    pgm_write::write_pgm(image, width, height, greatest, out)
+    PgmWritten::from(pgm_write::write_pgm(image, width, height, greatest, out))
 }
 
 // Writes the test plate of a seed into the output.
@@ -181,7 +186,7 @@ pub extern "C" fn livukoe_seeded_plate(seed: u32, width: u32, height: u32, out: 
     ensures out_after { out.new ≡ out_after (seeded_refusal width height (length out.old))
         (seeded_plate seed width height) out.old }
 {
-    seeded_plates::seeded_plate(seed, width, height, out)
+    refusals::number(seeded_plates::seeded_plate(seed, width, height, out))
 }
 
 // The ink percentage of a grey.
@@ -189,7 +194,7 @@ pub extern "C" fn livukoe_seeded_plate(seed: u32, width: u32, height: u32, out: 
 pub extern "C" fn livukoe_ink_percentage(grey: u16, greatest: u32) -> Ink
     ensures { Percentage greatest grey result }
 {
-    ink::ink_percentage(grey, greatest)
+    Ink::from(ink::ink_percentage(grey, greatest))
 }
 
 // Writes the record of a plate with its connectivity, in the new form.
@@ -206,7 +211,13 @@ pub extern "C" fn livukoe_write_record(
     ensures { WrittenRecord connectivity width height greatest image.now out.old out.new
         work.old work.new result }
 {
-    record::write_record(image, width, height, greatest, connectivity, out, work)
+    let plate = PlateHead {
+        width,
+        height,
+        greatest,
+        connectivity,
+    };
+    Written::from(record::write_record(image, plate, out, work))
 }
 
 // Reads a record of either form: its plate.
@@ -215,7 +226,7 @@ pub extern "C" fn livukoe_read_record(bytes: &[u8], out: &mut [u16], work: &mut 
     ensures { ReadRecord (read_of bytes.now (length work.old)) out.old out.new
         work.old work.new result }
 {
-    record::read_record(bytes, out, work)
+    Head::from(record::read_record(bytes, out, work))
 }
 
 // Cuts a record at a limit.
@@ -229,7 +240,7 @@ pub extern "C" fn livukoe_cut_record(
     ensures { CutRecord (read_of bytes.now (length work.old)) limit out.old out.new
         work.old work.new result }
 {
-    record::cut_record(bytes, limit, out, work)
+    Head::from(record::cut_record(bytes, limit, out, work))
 }
 
 // Lists the sizes of a record's nodes: by area, their number and the grey lost.
@@ -243,7 +254,7 @@ pub extern "C" fn livukoe_size_list(
     ensures { ListedSizes (read_of bytes.now (length work.old)) counts.old counts.new
         losses.old losses.new work.old work.new result }
 {
-    record::size_list(bytes, counts, losses, work)
+    SizeHead::from(record::size_list(bytes, counts, losses, work))
 }
 
 // Converts a record to the old form. A record that is in it already comes back unchanged.
@@ -252,7 +263,7 @@ pub extern "C" fn livukoe_record_to_old(bytes: &[u8], out: &mut [u8], work: &mut
     ensures { Converted false (read_of bytes.now (length work.old)) out.old out.new
         work.old work.new result }
 {
-    record_convert::to_old_form(bytes, out, work)
+    Written::from(record_convert::to_old_form(bytes, out, work))
 }
 
 // Converts a record to the new form. A record that is in it already comes back unchanged.
@@ -261,7 +272,7 @@ pub extern "C" fn livukoe_record_to_new(bytes: &[u8], out: &mut [u8], work: &mut
     ensures { Converted true (read_of bytes.now (length work.old)) out.old out.new
         work.old work.new result }
 {
-    record_convert::to_new_form(bytes, out, work)
+    Written::from(record_convert::to_new_form(bytes, out, work))
 }
 
 // Writes the record of a plate, cuts it at a limit, and lists its sizes. A record that needs more bytes than were lent is refused by 5 after the work.
@@ -283,17 +294,13 @@ pub extern "C" fn livukoe_write_cut_list(
         out.old out.new counts.old counts.new losses.old losses.new
         work.old work.new result }
 {
-    record_write_cut_list::write_cut_list(
-        image,
+    let plate = PlateHead {
         width,
         height,
         greatest,
         connectivity,
-        limit,
-        bytes,
-        out,
-        counts,
-        losses,
-        work,
-    )
+    };
+    CutListed::from(record_write_cut_list::write_cut_list(
+        image, plate, limit, bytes, out, counts, losses, work,
+    ))
 }
