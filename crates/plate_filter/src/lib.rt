@@ -48,7 +48,7 @@ pub fn regional_maxima(
     Ok(())
 }
 
-// Writes the columns of the nodes. A struct of the four lent slices is no plainer: its clauses read `out.entry.levels` and `out.exit.levels`.
+// Writes the columns of the nodes. A struct of the four lent slices is no plainer: its clauses read `out.entry.levels.now` and `out.exit.0.now`.
 fn write_nodes(
     work: &[u32],
     n: usize,
