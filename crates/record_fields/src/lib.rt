@@ -96,7 +96,8 @@ pub fn measure(w: &[u32], t: TreeShape) -> usize
 #[tactic(auto, using(crate::proofs::Fields::small))]
 pub fn write(w: &[u32], t: TreeShape, out: &mut [u8])
     requires tree_stands { TreeStands t.shape w.now t.count }
-    requires w_in_bounds { length (record_of t.shape.connectivity t.shape.width t.shape.height t.shape.greatest (greys_in t.shape.pixels w.now)) ≤ length out.old }
+    requires w_in_bounds { length (record_of t.shape.connectivity t.shape.width t.shape.height t.shape.greatest (greys_in t.shape.pixels w.now))
+        ≤ length out.old }
     ensures { out.new
         ≡ over (record_of t.shape.connectivity t.shape.width t.shape.height t.shape.greatest (greys_in t.shape.pixels w.now)) out.old }
 {

@@ -126,7 +126,9 @@ module _ (P : Parsed) (work : List ℕ) where
   early_field e p = rw e.is (early_answer e.refusal p)
 
 module _ (P : Parsed) (r : RecordHead) {s : List ℕ} {at : ℕ} {work work' : List ℕ} {count : ℕ} where
-  module _ (room : Room work (r.plate.width * r.plate.height)) (e : P ≡ from_root r.new r.plate.greatest s r.plate.connectivity r.plate.width r.plate.height count at) where
+  module _
+      (room : Room work (r.plate.width * r.plate.height))
+      (e : P ≡ from_root r.new r.plate.greatest s r.plate.connectivity r.plate.width r.plate.height count at) where
     pub late_answer : {refusal : Refusal} → TreeRead r.plate.greatest s at (r.plate.width * r.plate.height) work work' count (Err refusal)
         → Spells P work work' (Err (Late refusal (r.plate.width * r.plate.height)))
     late_answer t = (sym (e ∙ t.rest r.new r.plate.connectivity r.plate.width r.plate.height refl), (room, t.frame))

@@ -1,5 +1,6 @@
 -- What reading a field at a position of a record finds, and what comparing one finds: SPECIFICATION 6 and 9.
-use Rattle.std.specs.Prelude.{◌≡◌, Bool, true, false, not, ◌&&◌, List, [], ◌∷◌, ℕ, suc, ◌+◌, ◌-◌, ◌*◌, ltb, leb, eqb, length, drop, Option, None, Some, Result, Ok, Err}
+use Rattle.std.specs.Prelude.{◌≡◌, Bool, true, false, not, ◌&&◌, List, [], ◌∷◌, ℕ, suc, ◌+◌, ◌-◌, ◌*◌, ltb, leb, eqb, length, drop}
+use Rattle.std.specs.Prelude.{Option, None, Some, Result, Ok, Err}
 use Rattle.meaning.specs.Sets.{pick}
 use Rattle.meaning.specs.Record.{varint}
 use Rattle.refusals.specs.Numbers as numbers
