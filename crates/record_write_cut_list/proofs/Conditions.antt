@@ -1,10 +1,13 @@
 -- The conditions ahead of any work: what is known where none is met, and the refusal from those of the plate, the limit and output, the tables.
-use mathlib.Core.Path.{◌≡◌, sym, ◌∙◌}
+use mathlib.Core.Path.{◌≡◌, refl, sym, ◌∙◌}
 use mathlib.Core.List.{List}
 use Prim.Native.Nat.{ℕ, ◌-◌, ◌*◌, ◌≤◌}
 use lib.ListN.{length}
 use borrow.Author.Tests.{le-leb, le-ltb}
 use Rattle.meaning.specs.Answers.{limit_refusal, out_refusal, plate_refusal, tables_refusal, work_refusal}
+use Rattle.refusals.specs.declared.Refusal.{Refusal}
+use Rattle.refusals.specs.Numbers.{number_of}
+use Rattle.refusals.proofs.Numbers.{number_nonzero}
 use Rattle.plate_refusals.proofs.Refusals.{Chain, Filterable, chained, cut_chain, decided, limit_none, out_none, passed}
 use Rattle.plate_refusals.proofs.Refusals.{plate_chain, plate_later, plate_none, plate_passes, plate_taken, tables_chain, tables-none, work_chain, work_none}
 use Rattle.record_write_cut_list.specs.WriteCutList.{early_refusal}
@@ -54,7 +57,7 @@ module _ (k w h M limit : ℕ) (f : List ℕ) (out counted lost work : ℕ) wher
         le-ltb work (8 * (w * h)) s.space,
       )
 
-  -- ---- p, q, t, s: what was found to be the refusals of the plate, of the limit and output, of the tables, of the work space
+  -- ---- the refusal of the plate, of the limit and output, of the tables, of the work space is that of the operation
 
   abbrev space_of : ℕ → ℕ
   space_of n = work_refusal n work 0
@@ -65,25 +68,27 @@ module _ (k w h M limit : ℕ) (f : List ℕ) (out counted lost work : ℕ) wher
   abbrev cut_of : ℕ → ℕ
   cut_of n = limit_refusal n limit (out_refusal n out (tables_of n))
 
-  module _ {p : ℕ} (e : p ≡ plate_refusal k w h M f 0) where
-    pub by_plate : (p ≡ 0 → ⊥) → p ≡ early 0
+  pub early_plate : (r : Refusal) → number_of r ≡ plate_refusal k w h M f 0 → number_of r ≡ early_refusal k w h M limit f out counted lost work 0
+  unfolding early_refusal
+  early_plate r e = decided (plate_chain k w h M f) e (number_nonzero r) (cut_of (w * h))
+
+  module _ (e : 0 ≡ plate_refusal k w h M f 0) where
+    past_plate : early_refusal k w h M limit f out counted lost work 0 ≡ cut_of (length f)
     unfolding early_refusal
-    by_plate x = decided (plate_chain k w h M f) e x (cut_of (w * h))
+    past_plate = plate_later (plate_taken k w h M f e refl) cut_of
 
-    module _ (z : p ≡ 0) {q : ℕ} (e₁ : q ≡ limit_refusal (length f) limit (out_refusal (length f) out 0)) where
-      after_plate : early 0 ≡ cut_of (length f)
-      unfolding early_refusal
-      after_plate = plate_later (plate_taken k w h M f e z) cut_of
+    pub early_cut : (r : Refusal) → number_of r ≡ limit_refusal (length f) limit (out_refusal (length f) out 0)
+        → number_of r ≡ early_refusal k w h M limit f out counted lost work 0
+    early_cut r e₁ = decided (cut_chain (length f) limit out) e₁ (number_nonzero r) (tables_of (length f)) ∙ sym past_plate
 
-      pub by-cut : (q ≡ 0 → ⊥) → q ≡ early 0
-      by-cut x = decided (cut_chain (length f) limit out) e₁ x (tables_of (length f)) ∙ sym after_plate
+    module _ (e₁ : 0 ≡ limit_refusal (length f) limit (out_refusal (length f) out 0)) where
+      past_cut : early_refusal k w h M limit f out counted lost work 0 ≡ tables_of (length f)
+      past_cut = past_plate ∙ passed (cut_chain (length f) limit out) e₁ refl (tables_of (length f))
 
-      module _ (z₁ : q ≡ 0) {t : ℕ} (e₂ : t ≡ tables_refusal (length f) counted lost 0) where
-        after_cut : early 0 ≡ tables_of (length f)
-        after_cut = after_plate ∙ passed (cut_chain (length f) limit out) e₁ z₁ (tables_of (length f))
+      pub early_tables : (r : Refusal) → number_of r ≡ tables_refusal (length f) counted lost 0
+          → number_of r ≡ early_refusal k w h M limit f out counted lost work 0
+      early_tables r e₂ = decided (tables_chain (length f) counted lost) e₂ (number_nonzero r) (space_of (length f)) ∙ sym past_cut
 
-        pub by-tables : (t ≡ 0 → ⊥) → t ≡ early 0
-        by-tables x = decided (tables_chain (length f) counted lost) e₂ x (space_of (length f)) ∙ sym after_cut
-
-        pub by_space : t ≡ 0 → {s : ℕ} → s ≡ work_refusal (length f) work 0 → s ≡ early 0
-        by_space z₂ e₃ = e₃ ∙ sym (after_cut ∙ passed (tables_chain (length f) counted lost) e₂ z₂ (space_of (length f)))
+      pub early_space : 0 ≡ tables_refusal (length f) counted lost 0 → (s : ℕ) → s ≡ work_refusal (length f) work 0
+          → s ≡ early_refusal k w h M limit f out counted lost work 0
+      early_space e₂ s e₃ = e₃ ∙ sym (past_cut ∙ passed (tables_chain (length f) counted lost) e₂ refl (space_of (length f)))

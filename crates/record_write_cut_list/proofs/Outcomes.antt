@@ -14,13 +14,19 @@ use Rattle.meaning.specs.Nodes.{nodes_of}
 use Rattle.meaning.specs.Plate.{Plate}
 use Rattle.meaning.specs.Record.{record_of}
 use Rattle.meaning.specs.Sets.{pick}
+use Rattle.std.specs.Prelude.{Result, Ok, Err, IsOk}
+use Rattle.refusals.specs.declared.Refusal.{Refusal}
+use Rattle.refusals.proofs.Numbers.{number_nonzero}
+use Rattle.plate_refusals.specs.declared.PlateHead.{PlateHead}
 use Rattle.plate_refusals.proofs.Refusals.{Chain, Filterable, decided, out_met, passed, tree_later}
 use Rattle.record_parse.specs.Parse.{plate, read_of}
 use Rattle.record_roundtrip.proofs.There.{read_new}
 use Rattle.record.specs.declared.Head.{Head}
 use Rattle.record.specs.declared.SizeHead.{SizeHead}
 use Rattle.record.specs.declared.Written.{Written}
-use Rattle.record.specs.Reading.{CutRecord, ListedSizes}
+use Rattle.record.specs.declared.SizeList.{SizeList}
+use Rattle.record.specs.Answers.{read_answer, sizes_answer}
+use Rattle.record.specs.Reading.{CutRecord, ListedSizes, cut_refusal, size_refusal}
 use Rattle.record.specs.Writing.{WrittenRecord, write_answer, write_out, write_refusal, write_work}
 use Rattle.demands.proofs.Claims.{is_cut, is_list, over-take}
 use Rattle.demands.proofs.Demand3.{cut-length, cut-zero, size_zero}
@@ -40,6 +46,15 @@ same_answer : {a a' b b' c c' d d' e e' : ℕ} → a ≡ a' → b ≡ b' → c �
     → ◌≡◌ {A = CutListed} (record { refusal = a; length = b; nodes = c; darkest = d; held = e })
     (record { refusal = a'; length = b'; nodes = c'; darkest = d'; held = e' })
 same_answer x y z u v = rw (x, y, z, u, v)
+
+-- an answer that refuses nothing
+pub read_ok : (answer : Result PlateHead Refusal) → (read_answer answer).refusal ≡ 0 → IsOk answer
+read_ok (Ok head) e = refl
+read_ok (Err refusal) e = absurd (number_nonzero refusal e)
+
+pub sizes_ok : (answer : Result SizeList Refusal) → (sizes_answer answer).refusal ≡ 0 → IsOk answer
+sizes_ok (Ok list) e = refl
+sizes_ok (Err refusal) e = absurd (number_nonzero refusal e)
 
 -- ---- the prefix of the output that is the record
 
@@ -167,39 +182,59 @@ module _ (k w h M limit : ℕ) (f bytes out counted lost work : List ℕ) {e : �
             let space : 8 * (w * h) ≤ length v = omega (arith, fits.sizes.space, zeroed_length (w * h) work fits.sizes.space, ap length q) in
             rw bytes_passed (read_new pl (length v) space)
 
-        pub listed_done : {out₁ counted₁ lost₁ w₂ w₃ : List ℕ} {r₂ : Head} {r₃ : SizeHead}
-            → CutRecord (read_of (take r.length bytes₁) (length w₁)) limit out out₁ w₁ w₂ r₂
-            → ListedSizes (read_of (take r.length bytes₁) (length w₂)) counted counted₁ lost lost₁ w₂ w₃ r₃
-            → WrittenCutListed k w h M limit f bytes bytes₁ out out₁ counted counted₁ lost lost₁ work w₃
-            (record { refusal = 0; length = r.length; nodes = r₃.nodes; darkest = r₃.darkest; held = r₃.held })
-        unfolding write_cut_list_answer
-        listed_done {out₁} {counted₁} {lost₁} {w₂} {w₃} {r₂} {r₃} c s =
-            let by : refusal ≡ 0 = whole ∙ no_refusal in
-            let t : CutRecord (plate true k w h M f) limit out out₁ w₁ w₂ r₂ = rw (read_is space_is) at c in
-            let cz = cut-zero pl limit fits.sizes.limit_low fits.sizes.limit_high out fits.sizes.room in
-            let w₂-is : w₂ ≡ work_after true (w * h) work = t.space ∙ ap (work_after true (w * h)) space_is ∙ zeroed_again (w * h) work in
-            let u : ListedSizes (plate true k w h M f) counted counted₁ lost lost₁ w₂ w₃ r₃ = rw (read_is w₂-is) at s in
-            let sz = size_zero pl counted lost fits.counts_fit fits.losses_fit in
-            let w₃-is : w₃ ≡ work_after true (w * h) work = u.space ∙ ap (work_after true (w * h)) w₂-is ∙ zeroed_again (w * h) work in
-            let cut-is : out₁ ≡ over (cut k w h limit f) out = t.output ∙ rw cz in
-            let counts_are : counted₁ ≡ over (counts k w h f) counted = u.count_table ∙ rw sz in
-            let losses_are : lost₁ ≡ over (losses k w h f) lost = u.loss_table ∙ rw sz in
-            let nodes_are : r₃.nodes ≡ length (nodes_of k w f) = ap (λ (a : SizeHead). a.nodes) u.answer ∙ rw sz in
-            let dark-is : r₃.darkest ≡ darkest f = ap (λ (a : SizeHead). a.darkest) u.answer ∙ rw sz in
-            let held-is : r₃.held ≡ held k w h f = ap (λ (a : SizeHead). a.held) u.answer ∙ rw sz in
-            record {
-              answer = same_answer (sym by) (long ∙ picked (length (record_of k w h M f)) by) (nodes_are ∙ picked (length (nodes_of k w f)) by)
-                  (dark-is ∙ picked (darkest f) by) (held-is ∙ picked (held k w h f) by);
-              written = rw by bytes-are;
-              cut_plate = rw by cut-is;
-              count_table = rw by counts_are;
-              loss_table = rw by losses_are;
-              space = rw (begins-is, z) w₃-is;
-              accepted = λ q. pl;
-              is_cut = λ q. rw (cut-is, over-take (cut k w h limit f) out (w * h) (cut-length pl limit)) (is_cut pl limit fits.sizes.limit_high);
-              is_list = λ q.
-                  rw (counts_are, losses_are, dark-is, held-is) (is_list pl counted lost (λ (a : ℕ). total (cut k w h a f)) (λ a l m. refl));
-            }
+        -- the cut of it
+        module _ {out₁ w₂ : List ℕ} {r₂ : Head} (c : CutRecord (read_of (take r.length bytes₁) (length w₁)) limit out out₁ w₁ w₂ r₂) where
+          t : CutRecord (plate true k w h M f) limit out out₁ w₁ w₂ r₂
+          t = rw (read_is space_is) at c
+
+          cz : cut_refusal (plate true k w h M f) limit (length out) ≡ 0
+          cz = cut-zero pl limit fits.sizes.limit_low fits.sizes.limit_high out fits.sizes.room
+
+          -- it is not refused
+          pub cut_taken : r₂.refusal ≡ 0
+          cut_taken = ap (λ (a : Head). a.refusal) t.answer ∙ cz
+
+          w₂-is : w₂ ≡ work_after true (w * h) work
+          w₂-is = t.space ∙ ap (work_after true (w * h)) space_is ∙ zeroed_again (w * h) work
+
+          -- the size list of it
+          module _ {counted₁ lost₁ w₃ : List ℕ} {r₃ : SizeHead}
+              (s : ListedSizes (read_of (take r.length bytes₁) (length w₂)) counted counted₁ lost lost₁ w₂ w₃ r₃) where
+            u : ListedSizes (plate true k w h M f) counted counted₁ lost lost₁ w₂ w₃ r₃
+            u = rw (read_is w₂-is) at s
+
+            sz : size_refusal (plate true k w h M f) (length counted) (length lost) ≡ 0
+            sz = size_zero pl counted lost fits.counts_fit fits.losses_fit
+
+            -- it is not refused
+            pub sizes_taken : r₃.refusal ≡ 0
+            sizes_taken = ap (λ (a : SizeHead). a.refusal) u.answer ∙ sz
+
+            pub listed_done : WrittenCutListed k w h M limit f bytes bytes₁ out out₁ counted counted₁ lost lost₁ work w₃
+                (record { refusal = 0; length = r.length; nodes = r₃.nodes; darkest = r₃.darkest; held = r₃.held })
+            unfolding write_cut_list_answer
+            listed_done =
+                let by : refusal ≡ 0 = whole ∙ no_refusal in
+                let w₃-is : w₃ ≡ work_after true (w * h) work = u.space ∙ ap (work_after true (w * h)) w₂-is ∙ zeroed_again (w * h) work in
+                let cut-is : out₁ ≡ over (cut k w h limit f) out = t.output ∙ rw cz in
+                let counts_are : counted₁ ≡ over (counts k w h f) counted = u.count_table ∙ rw sz in
+                let losses_are : lost₁ ≡ over (losses k w h f) lost = u.loss_table ∙ rw sz in
+                let nodes_are : r₃.nodes ≡ length (nodes_of k w f) = ap (λ (a : SizeHead). a.nodes) u.answer ∙ rw sz in
+                let dark-is : r₃.darkest ≡ darkest f = ap (λ (a : SizeHead). a.darkest) u.answer ∙ rw sz in
+                let held-is : r₃.held ≡ held k w h f = ap (λ (a : SizeHead). a.held) u.answer ∙ rw sz in
+                record {
+                  answer = same_answer (sym by) (long ∙ picked (length (record_of k w h M f)) by) (nodes_are ∙ picked (length (nodes_of k w f)) by)
+                      (dark-is ∙ picked (darkest f) by) (held-is ∙ picked (held k w h f) by);
+                  written = rw by bytes-are;
+                  cut_plate = rw by cut-is;
+                  count_table = rw by counts_are;
+                  loss_table = rw by losses_are;
+                  space = rw (begins-is, z) w₃-is;
+                  accepted = λ q. pl;
+                  is_cut = λ q. rw (cut-is, over-take (cut k w h limit f) out (w * h) (cut-length pl limit)) (is_cut pl limit fits.sizes.limit_high);
+                  is_list = λ q.
+                      rw (counts_are, losses_are, dark-is, held-is) (is_list pl counted lost (λ (a : ℕ). total (cut k w h a f)) (λ a l m. refl));
+                }
 
 -- ---- given its space nothing is refused
 
