@@ -23,70 +23,38 @@
 use std::io;
 use std::io::Read;
 use test_case_lines::cases;
-use test_case_runs::{byte_outputs, files, grey_outputs, tables};
-
-fn run(
-    rt: &impl Print,
-    line: &[u8],
-    bytes: &[u8],
-    greys: &[u16],
-    work: &mut [u32],
-) -> io::Result<()> {
-    if files::run(rt, line, bytes, greys)? {
-        return Ok(());
-    }
-    if tables::run(rt, line, bytes, greys, work)? {
-        return Ok(());
-    }
-    if grey_outputs::run(rt, line, bytes, greys, work)? {
-        return Ok(());
-    }
-    byte_outputs::run(rt, line, bytes, greys, work)?;
-    Ok(())
-}
+use test_case_runs::Case;
 
 // The work space is lent with as many places as the case says.
-fn lend_work(
-    rt: &impl Print,
-    line: &[u8],
-    bytes: &[u8],
-    greys: &[u16],
-    work: &mut [u32],
-) -> io::Result<()> {
-    let n = cases::places(line, b"work", work.len());
-    run(rt, line, bytes, greys, &mut work[..n])
+fn lend_work(rt: &impl Print, case: Case, work: &mut [u32]) -> io::Result<()> {
+    let n = cases::places(case.line, b"work", work.len());
+    test_case_runs::run(rt, case, &mut work[..n])
 }
 
 // The array goes by reference, not as a slice, so that no proof computes its elements.
-fn whole_work(
-    rt: &impl Print,
-    line: &[u8],
-    bytes: &[u8],
-    greys: &[u16],
-    work: &mut [u32; 543000],
-) -> io::Result<()> {
-    lend_work(rt, line, bytes, greys, work)
+fn whole_work(rt: &impl Print, case: Case, work: &mut [u32; 543000]) -> io::Result<()> {
+    lend_work(rt, case, work)
 }
 
-fn run_greys(rt: &impl Print, line: &[u8], bytes: &[u8], greys: &[u16]) -> io::Result<()> {
+fn run_case(rt: &impl Print, case: Case) -> io::Result<()> {
     let mut work = [7u32; 543000];
-    whole_work(rt, line, bytes, greys, &mut work)
+    whole_work(rt, case, &mut work)
 }
 
 fn run_bytes(rt: &impl Print, line: &[u8], bytes: &[u8]) -> io::Result<()> {
     let mut greys = [0u16; 69000];
     let n = cases::list_greys(line, b"greys", &mut greys);
-    run_greys(rt, line, bytes, &greys[..n])
-}
-
-fn print_name(rt: &impl Print, line: &[u8]) -> io::Result<()> {
-    let end = cases::end_at(line, 0, b' ');
-    rt.write_all(&line[..end])
+    let case = Case {
+        line,
+        bytes,
+        greys: &greys[..n],
+    };
+    run_case(rt, case)
 }
 
 // Runs the case of a line and prints its line.
 fn run_line(rt: &impl Print, line: &[u8]) -> io::Result<()> {
-    print_name(rt, line)?;
+    rt.write_all(cases::name(line))?;
     let mut bytes = [0u8; 69000];
     let n = cases::list_bytes(line, b"bytes", &mut bytes);
     run_bytes(rt, line, &bytes[..n])?;
@@ -94,14 +62,8 @@ fn run_line(rt: &impl Print, line: &[u8]) -> io::Result<()> {
 }
 
 fn run_lines(rt: &impl Print, file: &[u8]) -> io::Result<()> {
-    let mut at: usize = 0;
-    while at < file.len() {
-        let end = cases::end_at(file, at, b'\n');
-        run_line(rt, &file[at..end])?;
-        if file.len() <= end {
-            return Ok(());
-        }
-        at = end + 1;
+    for line in file.split_inclusive(|b| *b == b'\n') {
+        run_line(rt, line.strip_suffix(b"\n").unwrap_or(line))?;
     }
     Ok(())
 }
