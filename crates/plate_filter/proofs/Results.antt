@@ -1,6 +1,6 @@
 -- From a plate that is not refused to what an operation leaves: the values of the nodes are, by pixel, the plate cleaned on a side, or the marks of its
 -- maxima; the columns are those of the node list.
-use mathlib.Core.Path.{◌≡◌, refl, sym, ap, ◌∙◌}
+use mathlib.Core.Path.{◌≡◌, refl, ap, ◌∙◌}
 use mathlib.Core.Bool.{Bool, true, false}
 use mathlib.Core.List.{List}
 use Prim.Native.Nat.{ℕ, ◌≤◌, ◌<◌}

@@ -14,7 +14,6 @@ use Rattle.refusals.specs.Numbers.{number_of}
 use Rattle.refusals.proofs.Numbers.{number_nonzero}
 use Rattle.plate_refusals.specs.declared.PlateHead.{PlateHead}
 use Rattle.plate_refusals.proofs.Refusals.{Listable, out_met, out_none, tree_early, tree_first, tree_later, tree_none}
-use Rattle.work_columns.specs.Columns.{Room}
 use Rattle.work_columns.specs.Layout.{shape_of}
 use Rattle.work_columns.specs.declared.Shape.{Shape}
 use Rattle.maxtree_columns.proofs.Tree.{few_nodes}
