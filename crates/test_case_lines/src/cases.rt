@@ -3,6 +3,8 @@
 ghost use Rattle.std.specs.Prelude.{◌≡◌, ◌≤◌, ◌<◌, length, take, IfSome};
 ghost use Rattle.test_case_lines.specs.Places.{Behind};
 
+use plate_refusals::PlateHead;
+
 // A number, whether a star follows it, and the place after the byte that follows.
 #[derive(Clone, Copy)]
 struct Number {
@@ -126,16 +128,8 @@ pub fn field(line: &[u8], name: &[u8]) -> u32 {
 }
 
 // The fields of a plate that are one number each.
-#[derive(Clone, Copy)]
-pub struct PlateFields {
-    pub width: u32,
-    pub height: u32,
-    pub greatest: u32,
-    pub connectivity: u32,
-}
-
-pub fn plate_fields(line: &[u8]) -> PlateFields {
-    PlateFields {
+pub fn plate_head(line: &[u8]) -> PlateHead {
+    PlateHead {
         width: field(line, b"width"),
         height: field(line, b"height"),
         greatest: field(line, b"greatest"),

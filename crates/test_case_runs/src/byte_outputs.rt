@@ -1,31 +1,23 @@
 // The cases with an output of bytes; all but `pgm` have a work space.
 use super::{Case, lend, print_buffer};
+use refusals::Refusal;
 use std::io;
-use test_case_lines::cases::plate_fields;
+use test_case_lines::cases::plate_head;
 use test_case_lines::lists::print_number;
 
 // An output before.
 const OUTPUT: [u8; 69000] = [170; 69000];
 
-fn print_written(rt: &impl Print, written: record::Written) -> io::Result<()> {
-    print_number(rt, written.refusal)?;
-    print_number(rt, written.length as u64)
+fn print_written(rt: &impl Print, written: Result<usize, Refusal>) -> io::Result<()> {
+    print_number(rt, refusals::number(written))?;
+    print_number(rt, written.unwrap_or(0) as u64)
 }
 
 pub fn write(rt: &impl Print, case: Case, work: &mut [u32]) -> io::Result<()> {
     let mut output = OUTPUT;
-    let plate = plate_fields(case.line);
+    let plate = plate_head(case.line);
     lend(rt, case, &mut output, |out| {
-        let written = record::write_record(
-            case.greys,
-            plate.width,
-            plate.height,
-            plate.greatest,
-            plate.connectivity,
-            out,
-            work,
-        );
-        print_written(rt, written)
+        print_written(rt, record::write_record(case.greys, plate, out, work))
     })?;
     print_buffer(rt, work)
 }
@@ -48,7 +40,7 @@ pub fn new(rt: &impl Print, case: Case, work: &mut [u32]) -> io::Result<()> {
 
 pub fn pgm(rt: &impl Print, case: Case) -> io::Result<()> {
     let mut output = OUTPUT;
-    let plate = plate_fields(case.line);
+    let plate = plate_head(case.line);
     lend(rt, case, &mut output, |out| {
         let written = pgm_write::write_pgm(
             case.greys,
@@ -57,7 +49,6 @@ pub fn pgm(rt: &impl Print, case: Case) -> io::Result<()> {
             plate.greatest,
             out,
         );
-        print_number(rt, written.refusal)?;
-        print_number(rt, written.length as u64)
+        print_written(rt, written)
     })
 }

@@ -1,11 +1,14 @@
 // The cases on plate files and greys.
 use super::{Case, print_answer, print_buffer};
+use ink::Ink;
+use pgm::PgmRead;
+use refusals::Refusal;
 use std::io;
 use test_case_lines::cases::{field, places};
 use test_case_lines::lists::print_number;
 
 fn read(rt: &impl Print, bytes: &[u8], out: &mut [u16]) -> io::Result<()> {
-    let read = pgm::read_pgm(bytes, out);
+    let read = PgmRead::from(pgm::read_pgm(bytes, out));
     let fields = [read.refusal, read.width, read.height, read.greatest];
     print_answer(rt, &fields)?;
     print_buffer(rt, out)
@@ -25,15 +28,12 @@ fn print_header(rt: &impl Print, fields: &[u32], raster: usize) -> io::Result<()
 pub fn header(rt: &impl Print, case: Case) -> io::Result<()> {
     let at = field(case.line, b"at") as usize;
     match pgm_header::header_at(case.bytes, at) {
-        pgm_header::Header::Sound {
-            width,
-            height,
-            greatest,
-            raster,
-        } => print_header(rt, &[0, width, height, greatest], raster.at),
-        pgm_header::Header::Faulty(fault) => {
-            print_header(rt, &[pgm_header::fault_number(fault), 0, 0, 0], 0)
-        }
+        Ok(header) => print_header(
+            rt,
+            &[0, header.width, header.height, header.greatest],
+            header.raster.at,
+        ),
+        Err(fault) => print_header(rt, &[Refusal::from(fault).number(), 0, 0, 0], 0),
     }
 }
 
@@ -47,7 +47,7 @@ pub fn text(rt: &impl Print, case: Case) -> io::Result<()> {
 pub fn ink(rt: &impl Print, case: Case) -> io::Result<()> {
     let greatest = field(case.line, b"greatest");
     for grey in case.greys {
-        let ink = ink::ink_percentage(*grey, greatest);
+        let ink = Ink::from(ink::ink_percentage(*grey, greatest));
         print_answer(rt, &[ink.refusal, ink.percentage])?;
     }
     Ok(())

@@ -1,7 +1,7 @@
 // The cases on node lists and size lists, and the joint operation.
 use super::{Case, print_answer, print_buffer};
 use std::io;
-use test_case_lines::cases::{field, places, plate_fields};
+use test_case_lines::cases::{field, places, plate_head};
 use test_case_lines::lists::print_number;
 
 fn list_nodes(
@@ -13,20 +13,9 @@ fn list_nodes(
     anchors: &mut [u32],
     work: &mut [u32],
 ) -> io::Result<()> {
-    let plate = plate_fields(case.line);
-    let list = plate_filter::node_list(
-        case.greys,
-        plate.width,
-        plate.height,
-        plate.greatest,
-        plate.connectivity,
-        levels,
-        parents,
-        areas,
-        anchors,
-        work,
-    );
-    print_answer(rt, &[list.refusal, list.count])?;
+    let plate = plate_head(case.line);
+    let listed = plate_filter::node_list(case.greys, plate, levels, parents, areas, anchors, work);
+    print_answer(rt, &[refusals::number(listed), listed.unwrap_or(0)])?;
     print_buffer(rt, levels)?;
     print_buffer(rt, parents)?;
     print_buffer(rt, areas)?;
@@ -55,18 +44,9 @@ pub fn nodes(rt: &impl Print, case: Case, work: &mut [u32]) -> io::Result<()> {
 }
 
 pub fn entries(rt: &impl Print, case: Case, work: &mut [u32]) -> io::Result<()> {
-    let plate = plate_fields(case.line);
+    let plate = plate_head(case.line);
     let at = field(case.line, b"at") as usize;
-    test_entries::list_plate(
-        rt,
-        case.greys,
-        plate.width,
-        plate.height,
-        plate.greatest,
-        plate.connectivity,
-        work,
-        at,
-    )?;
+    test_entries::list_plate(rt, case.greys, plate, work, at)?;
     print_buffer(rt, work)
 }
 
@@ -91,7 +71,7 @@ fn list_sizes(
     losses: &mut [u64],
     work: &mut [u32],
 ) -> io::Result<()> {
-    print_size_head(rt, record::size_list(bytes, counts, losses, work))?;
+    print_size_head(rt, record::size_list(bytes, counts, losses, work).into())?;
     print_buffer(rt, counts)?;
     print_buffer(rt, losses)?;
     print_buffer(rt, work)
@@ -121,22 +101,12 @@ fn join(
     losses: &mut [u64],
     work: &mut [u32],
 ) -> io::Result<()> {
-    let plate = plate_fields(case.line);
+    let plate = plate_head(case.line);
     let limit = field(case.line, b"limit");
     let joint = record_write_cut_list::write_cut_list(
-        case.greys,
-        plate.width,
-        plate.height,
-        plate.greatest,
-        plate.connectivity,
-        limit,
-        record,
-        out,
-        counts,
-        losses,
-        work,
+        case.greys, plate, limit, record, out, counts, losses, work,
     );
-    print_joint(rt, joint)?;
+    print_joint(rt, joint.into())?;
     print_buffer(rt, record)?;
     print_buffer(rt, out)?;
     print_buffer(rt, counts)?;
