@@ -19,7 +19,7 @@ ghost use Rattle.seeded_plates.specs.Sequence.{seeded_plate, seeded_refusal};
 ghost use Rattle.ink.specs.Percentage.{Percentage};
 
 use ink::Ink;
-use pgm::PgmRead;
+use pgm::{PgmHead, PgmRead};
 use pgm_roll::{PlateAt, RollCount};
 use pgm_write::PgmWritten;
 use plate_entries::Node;
@@ -176,7 +176,12 @@ pub extern "C" fn livukoe_write_pgm(
     ensures out_after { out.new ≡ out_after (write_pgm width height greatest image.now (length out.old)).refusal
         (pgm_of width height greatest image.now) out.old }
 {
-    PgmWritten::from(pgm_write::write_pgm(image, width, height, greatest, out))
+    let head = PgmHead {
+        width,
+        height,
+        greatest,
+    };
+    PgmWritten::from(pgm_write::write_pgm(image, head, out))
 }
 
 // Writes the test plate of a seed into the output.

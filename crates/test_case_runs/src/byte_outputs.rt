@@ -1,5 +1,6 @@
 // The cases with an output of bytes; all but `pgm` have a work space.
 use super::{Case, lend, print_buffer};
+use pgm::PgmHead;
 use refusals::Refusal;
 use std::io;
 use test_case_lines::cases::plate_head;
@@ -41,14 +42,12 @@ pub fn new(rt: &impl Print, case: Case, work: &mut [u32]) -> io::Result<()> {
 pub fn pgm(rt: &impl Print, case: Case) -> io::Result<()> {
     let mut output = OUTPUT;
     let plate = plate_head(case.line);
+    let head = PgmHead {
+        width: plate.width,
+        height: plate.height,
+        greatest: plate.greatest,
+    };
     lend(rt, case, &mut output, |out| {
-        let written = pgm_write::write_pgm(
-            case.greys,
-            plate.width,
-            plate.height,
-            plate.greatest,
-            out,
-        );
-        print_written(rt, written)
+        print_written(rt, pgm_write::write_pgm(case.greys, head, out))
     })
 }

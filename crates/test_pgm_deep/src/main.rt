@@ -2,6 +2,7 @@
 // need more stack than a program has.
 #![tactic(auto)]
 
+use pgm::PgmRead;
 use std::io;
 
 const SIZE: usize = 4000000;
@@ -18,10 +19,12 @@ fn fill(file: &mut [u8; SIZE], filler: u8) {
 
 fn show(rt: &impl Print, file: &[u8; SIZE]) -> io::Result<()> {
     let mut out = [b'.' as u16; 1];
-    let r = pgm::read_pgm(file, &mut out);
-    let refusal = r.refusal;
-    let width = r.width;
-    let height = r.height;
+    let PgmRead {
+        refusal,
+        width,
+        height,
+        ..
+    } = pgm::read_pgm(file, &mut out).into();
     print!(rt; "{refusal} {width} {height} ")?;
     // the greatest grey is 255, so the pixel is a byte
     let pixel = [(out[0] % 256) as u8];
