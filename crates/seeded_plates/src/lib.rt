@@ -12,7 +12,7 @@ const MULTIPLIER: u32 = 1664525;
 
 const INCREMENT: u32 = 1013904223;
 
-// a * b, modulo 2^32.
+// a * b, modulo 2^32. An own function for the product, and `wrapping_add_u32` for the sum, are forms that this project must keep.
 fn wrapping_mul(a: u32, b: u32) -> u32
     ensures { result ≡ (a * b) % 2 ^ 32 }
 {
