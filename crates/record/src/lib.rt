@@ -23,7 +23,7 @@ pub struct SizeList {
     pub held: u64,
 }
 
-// ---- the answers as the C functions give them: a refusal's number and zeros, or 0 and what is given
+// ---- the answers as the C functions give them, and as the definitions speak of them: a refusal's number and zeros, or 0 and what is given
 
 // What writing answers: the length of the record, in bytes.
 #[repr(C)]

@@ -3,18 +3,17 @@ use mathlib.Core.Path.{◌≡◌, refl, sym, ap, ◌∙◌}
 use mathlib.Core.Bool.{Bool, true, false, beq, not}
 use mathlib.Core.List.{List, ◌++◌}
 use Prim.Native.Nat.{ℕ, ◌*◌, ◌≤◌, ◌<◌}
-use native.Mathlib.Omega.{arith}
-use lib.Dec.{ltb, T, ltb→lt}
+use lib.Dec.{ltb, ltb→lt}
 use borrow.Author.Tests.{le-ltb, lt-ltb}
 use lib.ListN.{length, drop, replicate}
-use Rattle.std.specs.Prelude.{Result, Err, Ok}
+use Rattle.std.specs.Prelude.{Err, Ok}
 use Rattle.meaning.specs.Answers.{out_refusal, over}
 use Rattle.meaning.specs.Record.{record_in}
 use Rattle.theory_lists.proofs.Tests.{passes}
 use Rattle.refusals.specs.declared.Refusal.{Refusal}
 use Rattle.refusals.specs.Numbers.{number_of}
 use Rattle.refusals.proofs.Numbers.{number_nonzero}
-use Rattle.plate_refusals.proofs.Refusals.{out_met, out_none, refuse_met}
+use Rattle.plate_refusals.proofs.Refusals.{out_met, refuse_met}
 use Rattle.work_columns.specs.Layout.{greys_in}
 use Rattle.work_columns.specs.declared.Shape.{Shape}
 use Rattle.work_columns.proofs.Columns.{cleared}

@@ -19,7 +19,7 @@ use Rattle.maxtree_columns.proofs.Tree.{tree_here, tree_plate}
 use Rattle.record_parse.specs.declared.RecordHead.{RecordHead}
 use Rattle.record_parse.specs.declared.Unread.{Unread}
 use Rattle.record_parse.specs.declared.Unread.TheVariants.{Early, Late}
-use Rattle.record_parse.specs.Parse.{Parsed, compared, parse, plate, read_of, same_bytes}
+use Rattle.record_parse.specs.Parse.{compared, parse, plate, read_of, same_bytes}
 use Rattle.record_parse.proofs.Sound.{parse_plate}
 use Rattle.record_parse.specs.Steps.{Spells}
 use Rattle.record_tree.specs.Found.{Finds, TreeFound}
@@ -34,7 +34,8 @@ found_unread s w w' (Late refusal pixels) x = (ap (compared s) (sym x.0), x.1)
 -- ---- a plate. h: what the record says of it
 
 module _ (s w w₁ : List ℕ) (h : RecordHead) (x : Spells (parse s (length w)) w w₁ (Ok h)) where
-  parsed : parse s (length w) ≡ plate h.new h.plate.connectivity h.plate.width h.plate.height h.plate.greatest (greys_in (h.plate.width * h.plate.height) w₁)
+  parsed : parse s (length w)
+      ≡ plate h.new h.plate.connectivity h.plate.width h.plate.height h.plate.greatest (greys_in (h.plate.width * h.plate.height) w₁)
   parsed = sym x.0
 
   accepted : Plate h.plate.connectivity h.plate.width h.plate.height h.plate.greatest (greys_in (h.plate.width * h.plate.height) w₁)
@@ -65,7 +66,8 @@ module _ (s w w₁ : List ℕ) (h : RecordHead) (x : Spells (parse s (length w))
       whole : Frame (h.plate.width * h.plate.height) w w₂
       whole = frame_trans x.1.1 built.frame
 
-      read_is : read_of s (length w) ≡ compared s (plate h.new h.plate.connectivity h.plate.width h.plate.height h.plate.greatest (greys_in (h.plate.width * h.plate.height) w₂))
+      read_is : read_of s (length w)
+          ≡ compared s (plate h.new h.plate.connectivity h.plate.width h.plate.height h.plate.greatest (greys_in (h.plate.width * h.plate.height) w₂))
       unfolding read_of
       read_is =
           ap (compared s) parsed
@@ -73,7 +75,9 @@ module _ (s w w₁ : List ℕ) (h : RecordHead) (x : Spells (parse s (length w))
 
       module _ {same : Bool}
           (e : same ≡ same_bytes s (record_in h.new g.connectivity g.width g.height g.greatest (greys_in g.pixels w₂))) where
-        same-is : same_bytes s (record_in h.new h.plate.connectivity h.plate.width h.plate.height h.plate.greatest (greys_in (h.plate.width * h.plate.height) w₂)) ≡ same
+        same-is : same_bytes s
+            (record_in h.new h.plate.connectivity h.plate.width h.plate.height h.plate.greatest (greys_in (h.plate.width * h.plate.height) w₂))
+            ≡ same
         same-is = sym (rw is at e)
 
         -- 24

@@ -92,3 +92,6 @@ module _ (k w h M limit : ℕ) (f : List ℕ) (out counted lost work : ℕ) wher
       pub early_space : 0 ≡ tables_refusal (length f) counted lost 0 → (s : ℕ) → s ≡ work_refusal (length f) work 0
           → s ≡ early_refusal k w h M limit f out counted lost work 0
       early_space e₂ s e₃ = e₃ ∙ sym (past_cut ∙ passed (tables_chain (length f) counted lost) e₂ refl (space_of (length f)))
+
+-- the four
+pub ruleset early_conditions = (early_plate, early_cut, early_tables, early_space)

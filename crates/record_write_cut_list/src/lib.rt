@@ -18,7 +18,7 @@ pub struct CutList {
     pub held: u64,
 }
 
-// The same as the C function answers it: a refusal's number and zeros, or 0 and what is given.
+// The same as the C function answers it, and as `WrittenCutListed` speaks of it: a refusal's number and zeros, or 0 and what is given.
 #[repr(C)]
 #[derive(Clone, Copy)]
 pub struct CutListed {
@@ -44,7 +44,7 @@ impl From<Result<CutList, Refusal>> for CutListed {
 }
 
 // The conditions ahead of any work: those of a plate, a limit and an output, then 5 of a short table, then 6.
-#[tactic(auto, using(crate::proofs::Conditions::early_plate, crate::proofs::Conditions::early_cut, crate::proofs::Conditions::early_tables, crate::proofs::Conditions::early_space))]
+#[tactic(auto, using(crate::proofs::Conditions::early_conditions))]
 fn check_early(
     image: &[u16],
     plate: PlateHead,
@@ -89,6 +89,7 @@ pub fn write_cut_list(
         work.len(),
     )?;
     let length = record::write_record(image, plate, bytes, work)?;
+    // The record of a plate that was checked, with the limit and the space, is refused by neither.
     let written = &bytes[..length];
     record::cut_record(written, limit, out, work).unwrap();
     let sizes = record::size_list(written, counts, losses, work).unwrap();

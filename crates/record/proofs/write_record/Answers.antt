@@ -25,4 +25,5 @@ pub returns : goal.returns
 returns c =
     let s = c.args in
     wrote s.image.now s.work.now (tree_none _ _ _ _ s.image.now (length s.work.now) c.in_ok-check_tree.ensures refl)
-    c.shape.ensures c.plate_tree-tree.ensures.tree c.clear.ensures c.write_tree-written.result (rw c.plate_tree-tree.ensures.shape at c.write_tree-written.ensures)
+    c.shape.ensures c.plate_tree-tree.ensures.tree c.clear.ensures c.write_tree-written.result
+    (rw c.plate_tree-tree.ensures.shape at c.write_tree-written.ensures)

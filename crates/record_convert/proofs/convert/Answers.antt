@@ -1,5 +1,5 @@
 -- `record_convert::convert` meets its contract: what is passed on is the record in the form that was asked for.
-use mathlib.Core.Path.{◌≡◌, sym, ap, ◌∙◌}
+use mathlib.Core.Path.{sym, ap, ◌∙◌}
 use mathlib.Core.Bool.{not}
 use lib.ListN.{length}
 use Rattle.record_convert.proofs.Forms.{form_kept, front_added, front_dropped, front_fits, spelt}
