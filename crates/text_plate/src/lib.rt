@@ -1,27 +1,41 @@
-// The text that the program sizelist prints for a plate. It serves the crates `text_sizelist` and `text_roll`, which know that there is room.
+// The texts that the program sizelist prints for a plate and for a refusal. It serves the crates `text_sizelist` and `text_roll`, which know that there is room.
 #![tactic(auto)]
 
 ghost use Rattle.std.specs.Prelude.{◌+◌, ◌*◌, ◌≤◌, ◌<◌, length, ◌≡◌, true};
 ghost use Rattle.meaning.specs.Plate.{greatest_fits};
 ghost use Rattle.meaning.specs.Sets.{gather};
+ghost use Rattle.refusals.specs.Numbers.{number_of};
 ghost use Rattle.text_lines.specs.Lines.{PutText};
 ghost use Rattle.text_lines.specs.Pieces.{HasRoom, Puts};
-ghost use Rattle.text_plate.specs.Text.{head_line, area_line, size_line, held_line, rest_line, plate_text};
+ghost use Rattle.text_plate.specs.Text.{head_line, area_line, size_line, held_line, rest_line, plate_text, refused_text};
 ghost use Rattle.text_plate.specs.Pieces.{plate_bytes, SmallPlate};
 
+use plate_refusals::PlateHead;
+use record::SizeList;
+use refusals::Refusal;
 use text_lines::Text;
 
+// Puts the text of a refusal.
+pub fn put_refused(text: &mut Text, refusal: Refusal)
+    requires { HasRoom text.old 29 }
+    ensures { Puts text.old (refused_text (number_of refusal)) text.new }
+{
+    text.put_word(b"refused");
+    text.put_field(u64::from(refusal.number()));
+    text.put_end();
+}
+
 // Puts the first line: the sizes, the connectivity and the number of nodes.
-fn put_head(text: &mut Text, width: u32, height: u32, connectivity: u32, nodes: u32)
+fn put_head(text: &mut Text, list: SizeList)
     requires { HasRoom text.old 89 }
-    ensures puts { Puts text.old (head_line width height connectivity nodes) text.new }
+    ensures puts { Puts text.old (head_line list.plate.width list.plate.height list.plate.connectivity list.nodes) text.new }
     ensures upper_bound { text.new.length ≤ text.old.length + 89 }
 {
     text.put_word(b"size");
-    text.put_field(u64::from(width));
-    text.put_field(u64::from(height));
-    text.put_field(u64::from(connectivity));
-    text.put_field(u64::from(nodes));
+    text.put_field(u64::from(list.plate.width));
+    text.put_field(u64::from(list.plate.height));
+    text.put_field(u64::from(list.plate.connectivity));
+    text.put_field(u64::from(list.nodes));
     text.put_end();
 }
 
@@ -70,10 +84,10 @@ fn put_rest(text: &mut Text, darkest: u32, greatest: u32)
     ensures puts { Puts text.old (rest_line greatest darkest) text.new }
     ensures upper_bound { text.new.length ≤ text.old.length + 47 }
 {
-    let ink = ink::ink_percentage(darkest as u16, greatest);
+    let percentage = ink::ink_percentage(darkest as u16, greatest).unwrap();
     text.put_word(b"rest");
     text.put_field(u64::from(darkest));
-    text.put_field(u64::from(ink.percentage));
+    text.put_field(u64::from(percentage));
     text.put_end();
 }
 
@@ -84,17 +98,22 @@ pub fn put_plate(text: &mut Text, image: &[u16], width: u32, height: u32, greate
     ensures puts { Puts text.old (plate_text width height greatest image.now) text.new }
     ensures upper_bound { text.new.length ≤ text.old.length + plate_bytes (length image.now) }
 {
+    let plate = PlateHead {
+        width,
+        height,
+        greatest,
+        connectivity: 4,
+    };
     let mut bytes = [0u8; 20510];
     let mut work = [0u32; 8192];
-    let written = record::write_record(image, width, height, greatest, 4, &mut bytes, &mut work);
-    let size = written.length;
+    let size = record::write_record(image, plate, &mut bytes, &mut work).unwrap();
     let mut counts = [0u32; 1023];
     let mut losses = [0u64; 1023];
-    let list = record::size_list(&bytes[..size], &mut counts, &mut losses, &mut work);
-    put_head(text, list.width, list.height, list.connectivity, list.nodes);
+    let list = record::size_list(&bytes[..size], &mut counts, &mut losses, &mut work).unwrap();
+    put_head(text, list);
     put_sizes(text, &counts, &losses, image.len() - 1);
     put_held(text, list.held);
-    put_rest(text, list.darkest, list.greatest);
+    put_rest(text, list.darkest, list.plate.greatest);
 }
 
 // Puts the text of a plate, and gives the place after it.

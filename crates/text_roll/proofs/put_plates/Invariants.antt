@@ -5,7 +5,7 @@ use Rattle.text_roll.proofs.Texts.{Putting}
 use Rattle.text_roll.proofs.put_plates.Given as goal
 
 abbrev pub invariant-loop-at : goal.invariant-loop-at
-invariant-loop-at l = Putting l.file l.initial.text l.at l.next l.text
+invariant-loop-at l = Putting l.file l.initial.text l.at l.text
 
 abbrev pub decreases-loop-at : goal.decreases-loop-at
 decreases-loop-at l = length l.file - l.at
