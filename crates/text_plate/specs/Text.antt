@@ -1,4 +1,4 @@
--- What the program sizelist prints for a plate, as bytes: SPECIFICATION 7.
+-- What the program sizelist prints for a plate and for a refusal, as bytes: SPECIFICATION 7.
 use Rattle.std.specs.Prelude.{List, [], ◌∷◌, ◌++◌, ℕ, suc, ◌-◌, ltb, length}
 use Rattle.meaning.specs.Cut.{counts, darkest, held, losses}
 use Rattle.meaning.specs.Ink.{ink_of}
@@ -13,6 +13,11 @@ most_pixels = 1024
 
 abbrev pub four : ℕ
 four = 4
+
+-- a refusal: "refused" and the number
+unfoldable pub refused_text : ℕ → List ℕ
+unfolding bytes line
+refused_text number = line (bytes "refused") (number ∷ [])
 
 -- "size", width, height, connectivity, node count
 unfoldable pub head_line : ℕ → ℕ → ℕ → ℕ → List ℕ

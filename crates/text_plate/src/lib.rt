@@ -1,17 +1,29 @@
-// The text that the program sizelist prints for a plate. It serves the crates `text_sizelist` and `text_roll`, which know that there is room.
+// The texts that the program sizelist prints for a plate and for a refusal. It serves the crates `text_sizelist` and `text_roll`, which know that there is room.
 #![tactic(auto)]
 
 ghost use Rattle.std.specs.Prelude.{◌+◌, ◌*◌, ◌≤◌, ◌<◌, length, ◌≡◌, true};
 ghost use Rattle.meaning.specs.Plate.{greatest_fits};
 ghost use Rattle.meaning.specs.Sets.{gather};
+ghost use Rattle.refusals.specs.Numbers.{number_of};
 ghost use Rattle.text_lines.specs.Lines.{PutText};
 ghost use Rattle.text_lines.specs.Pieces.{HasRoom, Puts};
-ghost use Rattle.text_plate.specs.Text.{head_line, area_line, size_line, held_line, rest_line, plate_text};
+ghost use Rattle.text_plate.specs.Text.{head_line, area_line, size_line, held_line, rest_line, plate_text, refused_text};
 ghost use Rattle.text_plate.specs.Pieces.{plate_bytes, SmallPlate};
 
 use plate_refusals::PlateHead;
 use record::SizeList;
+use refusals::Refusal;
 use text_lines::Text;
+
+// Puts the text of a refusal.
+pub fn put_refused(text: &mut Text, refusal: Refusal)
+    requires { HasRoom text.old 29 }
+    ensures { Puts text.old (refused_text (number_of refusal)) text.new }
+{
+    text.put_word(b"refused");
+    text.put_field(u64::from(refusal.number()));
+    text.put_end();
+}
 
 // Puts the first line: the sizes, the connectivity and the number of nodes.
 fn put_head(text: &mut Text, list: SizeList)

@@ -26,9 +26,9 @@ use Rattle.text_lines.specs.Pieces.{HasRoom, Puts}
 use Rattle.text_lines.specs.declared.Text.{Text}
 use Rattle.text_lines.proofs.Pieces.{sets-front}
 use Rattle.text_lines.proofs.Texts.{puts_nothing, puts_puts}
-use Rattle.text_plate.specs.Text.{four, most_pixels, plate_text}
+use Rattle.text_plate.specs.Text.{four, most_pixels, plate_text, refused_text}
 use Rattle.text_plate.specs.Pieces.{plate_bytes}
-use Rattle.text_roll.specs.Text.{image_text, input_bytes, plates_text, refused_text, roll_text, size_text}
+use Rattle.text_roll.specs.Text.{image_text, input_bytes, plates_text, roll_text, size_text}
 use Rattle.text_roll.specs.Pieces.{Made, SmallPlace, SmallRoll}
 
 -- the front of an output over which greys were written

@@ -1,19 +1,12 @@
 -- What the program sizelist prints for a file, as bytes: SPECIFICATION 7.
 use Rattle.std.specs.Prelude.{List, [], ◌∷◌, ◌++◌, ℕ, ltb, length}
 use Rattle.meaning.specs.Sets.{pick}
-use Rattle.pgm.specs.Text.{bytes}
 use Rattle.pgm_roll.specs.Roll.{Image, Roll, largest, plates, refused, roll}
-use Rattle.text_lines.specs.Lines.{line}
-use Rattle.text_plate.specs.Text.{most_pixels, plate_text}
+use Rattle.text_plate.specs.Text.{most_pixels, plate_text, refused_text}
 
 -- the longest input, in bytes
 abbrev pub input_bytes : ℕ
 input_bytes = 4096
-
--- a refusal: "refused" and the number
-unfoldable pub refused_text : ℕ → List ℕ
-unfolding bytes line
-refused_text number = line (bytes "refused") (number ∷ [])
 
 -- a plate, and plates one after the other
 abbrev pub image_text : Image → List ℕ

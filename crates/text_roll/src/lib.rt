@@ -2,34 +2,24 @@
 #![tactic(auto)]
 
 ghost use Rattle.std.specs.Prelude.{◌+◌, ◌≤◌, length, Ok};
-ghost use Rattle.refusals.specs.Numbers.{number_of};
 ghost use Rattle.text_lines.specs.Pieces.{HasRoom, Puts};
 ghost use Rattle.pgm_roll.specs.Roll.{place_answer, plates_of, roll};
 ghost use Rattle.pgm_roll.specs.Scan.{greys_at};
 ghost use Rattle.text_plate.specs.Text.{plate_text};
 ghost use Rattle.text_plate.specs.Pieces.{plate_bytes};
-ghost use Rattle.text_roll.specs.Text.{refused_text, plates_text, size_text};
+ghost use Rattle.text_roll.specs.Text.{plates_text, size_text};
 ghost use Rattle.text_roll.specs.Pieces.{text_places, SmallPlace, SmallRoll, Made};
 
 use pgm_roll::FoundPlate;
 use refusals::Refusal;
 use text_lines::Text;
+use text_plate::put_refused;
 
 // The longest input, in bytes.
 const INPUT_BYTES: usize = 4096;
 
 // The most pixels of a plate.
 const MOST_PIXELS: usize = 1024;
-
-// Puts the text of a refusal.
-fn put_refused(text: &mut Text, refusal: Refusal)
-    requires { HasRoom text.old 29 }
-    ensures { Puts text.old (refused_text (number_of refusal)) text.new }
-{
-    text.put_word(b"refused");
-    text.put_field(u64::from(refusal.number()));
-    text.put_end();
-}
 
 // Puts the text of a plate that stands in a file.
 fn put_plate(text: &mut Text, file: &[u8], plate: FoundPlate)

@@ -18,8 +18,8 @@ use Rattle.pgm.proofs.Readable.{Readable}
 use Rattle.pgm.proofs.Reading.{file_readable}
 use Rattle.text_lines.specs.Lines.{PutText}
 use Rattle.text_lines.proofs.Pieces.{sets-front}
-use Rattle.text_plate.specs.Text.{most_pixels, plate_text}
-use Rattle.text_sizelist.specs.Text.{answer_text, input_bytes, refused_text, size_text}
+use Rattle.text_plate.specs.Text.{most_pixels, plate_text, refused_text}
+use Rattle.text_sizelist.specs.Text.{answer_text, input_bytes, size_text}
 use Rattle.text_sizelist.specs.Pieces.{Made}
 
 -- a text that was put from its first place on

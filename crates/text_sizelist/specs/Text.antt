@@ -1,20 +1,13 @@
 -- What the program sizelist prints for a file, as bytes: SPECIFICATION 7.
-use Rattle.std.specs.Prelude.{List, [], ◌∷◌, ℕ, eqb, ltb, length}
+use Rattle.std.specs.Prelude.{List, ℕ, eqb, ltb, length}
 use Rattle.meaning.specs.Sets.{pick}
 use Rattle.pgm.specs.File.{plate_of, read_pgm}
-use Rattle.pgm.specs.Text.{bytes}
 use Rattle.pgm.specs.declared.PgmRead.{PgmRead}
-use Rattle.text_lines.specs.Lines.{line}
-use Rattle.text_plate.specs.Text.{most_pixels, plate_text}
+use Rattle.text_plate.specs.Text.{most_pixels, plate_text, refused_text}
 
 -- the longest input, in bytes
 abbrev pub input_bytes : ℕ
 input_bytes = 4096
-
--- a refusal: "refused" and the number
-unfoldable pub refused_text : ℕ → List ℕ
-unfolding bytes line
-refused_text number = line (bytes "refused") (number ∷ [])
 
 -- what reading the plate file answered, and the plate: its refusal, or the plate's text
 abbrev pub answer_text : PgmRead → List ℕ → List ℕ

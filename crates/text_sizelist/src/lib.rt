@@ -1,9 +1,8 @@
 // The text that the program sizelist prints for a plate file.
 #![tactic(auto)]
 
-ghost use Rattle.refusals.specs.Numbers.{number_of};
 ghost use Rattle.text_lines.specs.Pieces.{HasRoom, Puts};
-ghost use Rattle.text_sizelist.specs.Text.{refused_text, size_text};
+ghost use Rattle.text_sizelist.specs.Text.{size_text};
 ghost use Rattle.text_sizelist.specs.Pieces.{text_places, Made};
 
 use refusals::Refusal;
@@ -12,27 +11,17 @@ use text_lines::Text;
 // The longest input, in bytes.
 const INPUT_BYTES: usize = 4096;
 
-// Puts the text of a refusal.
-fn put_refused(text: &mut Text, refusal: Refusal)
-    requires { HasRoom text.old 29 }
-    ensures { Puts text.old (refused_text (number_of refusal)) text.new }
-{
-    text.put_word(b"refused");
-    text.put_field(u64::from(refusal.number()));
-    text.put_end();
-}
-
 // Puts what sizelist prints for a file.
 fn put_text(text: &mut Text, file: &[u8])
     requires { HasRoom text.old text_places }
     ensures { Puts text.old (size_text file.now) text.new }
 {
     if INPUT_BYTES < file.len() {
-        return put_refused(text, Refusal::WorkLength);
+        return text_plate::put_refused(text, Refusal::WorkLength);
     }
     let mut plate = [0u16; 1024];
     match pgm::read_pgm(file, &mut plate) {
-        Err(refusal) => put_refused(text, refusal),
+        Err(refusal) => text_plate::put_refused(text, refusal),
         Ok(head) => {
             let greys = &plate[..head.pixels()];
             text_plate::put_plate(text, greys, head.width, head.height, head.greatest);

@@ -1,9 +1,9 @@
--- `text_sizelist::put_refused` meets its contract: the line is put field by field.
+-- `text_plate::put_refused` meets its contract: the line is put field by field.
 use Rattle.std.proofs.Common.{◌∙◌}
 use Rattle.pgm.specs.Text.{bytes}
 use Rattle.text_lines.proofs.Texts.{begin_line, next_field, whole_line}
-use Rattle.text_sizelist.specs.Text.{refused_text}
-use Rattle.text_sizelist.proofs.put_refused.Goals as goal
+use Rattle.text_plate.specs.Text.{refused_text}
+use Rattle.text_plate.proofs.put_refused.Goals as goal
 
 pub returns : goal.returns
 unfolding refused_text bytes
