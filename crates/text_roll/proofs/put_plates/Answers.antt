@@ -20,7 +20,8 @@ loop-at-smaller c =
 
 pub loop-at-preserved : goal.loop-at-preserved
 loop-at-preserved c =
-    putting_more c.loop-at.invariant c.loop-at-test.true (rw c.unwrap-plate.ensures at c.plate_at.ensures) c.put_plate.ensures.puts c.put_plate.ensures.upper_bound
+    let there = rw c.unwrap-plate.ensures at c.plate_at.ensures in
+    putting_more c.loop-at.invariant c.loop-at-test.true there c.put_plate.ensures.puts c.put_plate.ensures.upper_bound
 
 pub returns : goal.returns
 returns c = putting_done c.loop-at.invariant c.loop-at-test.false
