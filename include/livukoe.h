@@ -32,15 +32,15 @@
  *     livukoe_regional_maxima 13312
  *     livukoe_node_list       13312
  *     livukoe_node_entries    13312
- *     livukoe_read_pgm         7168
- *     livukoe_roll_count       7168
- *     livukoe_roll_plate       7168
- *     livukoe_plate_at         7168
+ *     livukoe_read_pgm         6144
+ *     livukoe_roll_count       6144
+ *     livukoe_roll_plate       6144
+ *     livukoe_plate_at         6144
  *     livukoe_write_pgm        1024
  *     livukoe_seeded_plate     1024
  *     livukoe_write_record    13312
  *     livukoe_read_record     13312
- *     livukoe_cut_record      13312
+ *     livukoe_cut_record      14336
  *     livukoe_size_list       14336
  *     livukoe_write_cut_list  14336
  *     livukoe_record_to_old   13312
