@@ -43,6 +43,11 @@ impl PlateHead {
     }
 }
 
+// The numbers of the sides, which cleaning takes.
+pub const LIGHT: u32 = 1;
+
+pub const DARK: u32 = 2;
+
 // The sides on which a plate is cleaned.
 #[derive(Clone, Copy, Debug, PartialEq, Eq)]
 pub enum Side {
@@ -57,8 +62,8 @@ impl TryFrom<u32> for Side {
 
     fn try_from(number: u32) -> Result<Side, Refusal> {
         match number {
-            1 => Ok(Side::Light),
-            2 => Ok(Side::Dark),
+            LIGHT => Ok(Side::Light),
+            DARK => Ok(Side::Dark),
             _ => Err(Refusal::Side),
         }
     }
