@@ -27,10 +27,10 @@ Finds P w w' (Ok t) = TreeFound P w w' t
 Finds P w w' (Err (Early refusal)) = (P ≡ early (number_of refusal)) × (w' ≡ w)
 Finds P w w' (Err (Late refusal pixels)) = (P ≡ late (number_of refusal) pixels) × (Room w pixels × Frame pixels w w')
 
--- P is a refusal by that number: all is as it was where no work had begun, else the work space is zeroed
+-- P is a refusal by that number: all is as it was where no work had begun, else there was room for the eight columns, which are zeroed
 abbrev pub Refuses : Parsed → ℕ → List ℕ → List ℕ → Type 0
 Refuses (early number) r w w' = (r ≡ number) × (w' ≡ w)
-Refuses (late number pixels) r w w' = (r ≡ number) × (w' ≡ work_after true pixels w)
+Refuses (late number pixels) r w w' = (r ≡ number) × (Room w pixels × (w' ≡ work_after true pixels w))
 Refuses (plate new k wd ht M f) r w w' = ⊥
 
 -- such a plate, or such a refusal

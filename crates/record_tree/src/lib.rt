@@ -21,8 +21,8 @@ pub struct FoundTree {
     pub tree: TreeShape,
 }
 
-// Reads a record up to 24. Where it is refused the work space is left as it then is.
-fn find_tree(bytes: &[u8], work: &mut [u32]) -> Result<FoundTree, Unread>
+// Reads a record up to 24, and says of a refusal whether work had begun, on how many pixels. Where it is refused the work space is left as it then is.
+pub fn find_tree(bytes: &[u8], work: &mut [u32]) -> Result<FoundTree, Unread>
     ensures { Finds (read_of bytes.now (length work.old)) work.old work.new result }
 {
     let RecordHead { new, plate } = record_parse::parse_record(bytes, work)?;
