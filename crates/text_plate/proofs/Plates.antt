@@ -126,7 +126,7 @@ module _ {w h M : ℕ} {f : List ℕ} (pl : Plate four w h M f) where
       )
 
   -- at most 4,102 fields of at most five bytes
-  record_short_lem : length f ≤ most_pixels → length bytes ≤ 20510
+  pub record_short_lem : length f ≤ most_pixels → length bytes ≤ 20510
   unfolding record_of
   record_short_lem small = omega (arith, encode-most (0 ∷ 2 ∷ M ∷ fields four w h f), fields-length, few_nodes)
 
@@ -155,7 +155,7 @@ module _ {w h M : ℕ} {f : List ℕ} (pl : Plate four w h M f) where
     unfolding write_answer
     written-taken = ap (λ (s : Written). s.refusal) x.answer ∙ not_refused
 
-    written-length : r.length ≡ length bytes
+    pub written-length : r.length ≡ length bytes
     unfolding write_answer
     written-length = ap (λ (s : Written). s.length) x.answer ∙ rw not_refused
 
