@@ -8,14 +8,10 @@ use native.Mathlib.Omega.{arith}
 use borrow.Author.Tests.{ne_eqb, not-true, not-false}
 use lib.ListN.{length, take, drop, get_or, drop_of_length-le}
 use lib.Seq.{drop-cons}
-use Rattle.std.proofs.Common.{Result, Ok, Err}
-use Rattle.theory_lists.proofs.Lists.{take_rest}
 use Rattle.pgm_header.specs.Grammar.{gap_then, blank, line_end, in_comment, mix, comment, front}
 use Rattle.pgm_header.specs.Steps.{Skipped, SkipWithin}
 use Rattle.pgm_header.specs.declared.Skip.{Skip}
-use Rattle.pgm_header.specs.declared.Skip.TheVariants.{Past, Paused}
-use Rattle.pgm_header.specs.declared.HeaderFault.{HeaderFault}
-use Rattle.pgm_header.specs.declared.HeaderFault.TheVariants.{GapOrNumber}
+use Rattle.pgm_header.specs.declared.Skip.TheVariants.{Past, Paused, Unended}
 use Rattle.pgm_header.proofs.Front.{Ends, ends, past}
 
 -- ---- the grammar at one byte
@@ -42,68 +38,62 @@ comment_ends b s e = rw (not-false (line_end b) e, comment)
 
 -- ---- where skipping stops
 
-within_from : (s : List ℕ) (from from' turns turns' : ℕ) (r : Result Skip HeaderFault) → from + turns ≤ from' + turns' → SkipWithin s from' turns' r
+within_from : (s : List ℕ) (from from' turns turns' : ℕ) (r : Skip) → from + turns ≤ from' + turns' → SkipWithin s from' turns' r
     → SkipWithin s from turns r
-within_from s from from' turns turns' (Ok (Past c)) h w = w
-within_from s from from' turns turns' (Ok (Paused c)) h w = omega arith
-within_from s from from' turns turns' (Err f) h w = tt
+within_from s from from' turns turns' (Past c) h w = w
+within_from s from from' turns turns' (Paused c) h w = omega arith
+within_from s from from' turns turns' Unended h w = tt
 
-module _ (s : List ℕ) (at n : ℕ) (count : n ≡ front blank (take (length s - at) (drop at s))) (h : at ≤ length s) where
-  is_blanks : at + n ≡ at + front blank (drop at s)
-  is_blanks = rw (count, take_rest)
+module _ (s : List ℕ) (at i : ℕ) (is_blanks : i ≡ at + front blank (drop at s)) (h : at ≤ length s) where
+  from_blanks : mix (drop at s) ≡ mix (drop i s)
+  from_blanks = past blank s at i is_blanks mix mix_blank
 
-  from_blanks : mix (drop at s) ≡ mix (drop (at + n) s)
-  from_blanks = past blank s at (at + n) is_blanks mix mix_blank
-
-  pub blanks_at_end : {turns : ℕ} → at + n ≡ length s → Skipped s at turns (mix (drop at s)) (Ok (Past (record { at = at + n })))
+  pub blanks_at_end : {turns : ℕ} → i ≡ length s → Skipped s at turns (mix (drop at s)) (Past (record { at = i }))
   unfolding mix
   blanks_at_end e =
-      let l : length s ≤ at + n = omega arith in
+      let l : length s ≤ i = omega arith in
       record { same = sym (from_blanks ∙ rw (drop_of_length-le s l)); within = omega arith }
 
-  blanks_end : Ends blank s at (at + n)
-  blanks_end = ends blank s at (at + n) is_blanks h
+  blanks_end : Ends blank s at i
+  blanks_end = ends blank s at i is_blanks h
 
   -- another byte than a blank is there
-  there : (at + n ≡ length s → ⊥) → at + n < length s
+  there : (i ≡ length s → ⊥) → i < length s
   there e = let b = blanks_end in omega arith
 
-  pub blanks_at_other : {turns : ℕ} → (at + n ≡ length s → ⊥) → (get_or s (at + n) 0 ≡ 35 → ⊥)
-      → Skipped s at turns (mix (drop at s)) (Ok (Past (record { at = at + n })))
+  pub blanks_at_other : {turns : ℕ} → (i ≡ length s → ⊥) → (get_or s i 0 ≡ 35 → ⊥)
+      → Skipped s at turns (mix (drop at s)) (Past (record { at = i }))
   blanks_at_other e ne = record {
-    same = sym (from_blanks ∙ rw (drop-cons s (at + n) 0 (there e)) (mix_other _ _ (blanks_end.fails (there e)) ne));
+    same = sym (from_blanks ∙ rw (drop-cons s i 0 (there e)) (mix_other _ _ (blanks_end.fails (there e)) ne));
     within = blanks_end.within;
   }
 
-  pub blanks_paused : {turns : ℕ} → turns ≡ 0 → Skipped s at turns (mix (drop at s)) (Ok (Paused (record { at = at + n })))
+  pub blanks_paused : {turns : ℕ} → turns ≡ 0 → Skipped s at turns (mix (drop at s)) (Paused (record { at = i }))
   blanks_paused z = let e = blanks_end in record { same = sym from_blanks; within = omega arith }
 
-  pub blanks_comment : (turns : ℕ) → (at + n ≡ length s → ⊥) → get_or s (at + n) 0 ≡ 35 → (turns ≡ 0 → ⊥) → (r : Result Skip HeaderFault)
-      → Skipped s (at + n + 1) (turns - 1) (comment (drop (at + n + 1) s)) r → Skipped s at turns (mix (drop at s)) r
+  pub blanks_comment : (turns : ℕ) → (i ≡ length s → ⊥) → get_or s i 0 ≡ 35 → (turns ≡ 0 → ⊥) → (r : Skip)
+      → Skipped s (i + 1) (turns - 1) (comment (drop (i + 1) s)) r → Skipped s at turns (mix (drop at s)) r
   blanks_comment turns l e nz r k = record {
-    same = k.same ∙ sym (from_blanks ∙ rw (drop-cons s (at + n) 0 (there l), add-one (at + n)) (mix_opens _ _ e));
-    within = within_from s _ (at + n + 1) _ (turns - 1) r (omega arith) k.within;
+    same = k.same ∙ sym (from_blanks ∙ rw (drop-cons s i 0 (there l), add-one i) (mix_opens _ _ e));
+    within = within_from s _ (i + 1) _ (turns - 1) r (omega arith) k.within;
   }
 
-module _ (s : List ℕ) (at n : ℕ) (count : n ≡ front in_comment (take (length s - at) (drop at s))) (h : at ≤ length s) where
-  is_comment : at + n ≡ at + front in_comment (drop at s)
-  is_comment = rw (count, take_rest)
+module _ (s : List ℕ) (at i : ℕ) (is_comment : i ≡ at + front in_comment (drop at s)) (h : at ≤ length s) where
+  from_comment : comment (drop at s) ≡ comment (drop i s)
+  from_comment = past in_comment s at i is_comment comment comment_inside
 
-  from_comment : comment (drop at s) ≡ comment (drop (at + n) s)
-  from_comment = past in_comment s at (at + n) is_comment comment comment_inside
-
-  pub comment_unended : {turns : ℕ} → at + n ≡ length s → Skipped s at turns (comment (drop at s)) (Err GapOrNumber)
+  pub comment_unended : {turns : ℕ} → i ≡ length s → Skipped s at turns (comment (drop at s)) Unended
   unfolding mix
   comment_unended e =
-      let l : length s ≤ at + n = omega arith in
+      let l : length s ≤ i = omega arith in
       record { same = sym (from_comment ∙ rw (drop_of_length-le s l)); within = tt }
 
-  pub comment_blanks : (turns : ℕ) → (at + n ≡ length s → ⊥) → (r : Result Skip HeaderFault)
-      → Skipped s (at + n + 1) turns (mix (drop (at + n + 1) s)) r → Skipped s at turns (comment (drop at s)) r
+  pub comment_blanks : (turns : ℕ) → (i ≡ length s → ⊥) → (r : Skip)
+      → Skipped s (i + 1) turns (mix (drop (i + 1) s)) r → Skipped s at turns (comment (drop at s)) r
   comment_blanks turns e r k =
-      let en = ends in_comment s at (at + n) is_comment h in
-      let l : at + n < length s = omega arith in
+      let en = ends in_comment s at i is_comment h in
+      let l : i < length s = omega arith in
       record {
-        same = k.same ∙ sym (from_comment ∙ rw (drop-cons s (at + n) 0 l, add-one (at + n)) (comment_ends _ _ (en.fails l)));
-        within = within_from s _ (at + n + 1) _ turns r (omega arith) k.within;
+        same = k.same ∙ sym (from_comment ∙ rw (drop-cons s i 0 l, add-one i) (comment_ends _ _ (en.fails l)));
+        within = within_from s _ (i + 1) _ turns r (omega arith) k.within;
       }

@@ -1,11 +1,11 @@
 -- What the answers of the header steps say, case by case, in the grammar's terms. A cursor stands for what is left of the file from it on.
 use Rattle.std.specs.Prelude.{◌≡◌, Bool, true, List, ℕ, ◌+◌, ◌<◌, ◌≤◌, length, drop, slice_index, Result, Ok, Err}
-use Rattle.pgm_header.specs.Grammar.{Token, number_then, gap_then, fault, ParsedHeader, sound, faulty, is_digit, mix}
+use Rattle.pgm_header.specs.Grammar.{Token, number_then, gap_then, fault, malformed, ParsedHeader, sound, faulty, is_digit, mix}
 use Rattle.pgm_header.specs.declared.Cursor.{Cursor}
 use Rattle.pgm_header.specs.declared.HeaderFault.{HeaderFault}
 use Rattle.pgm_header.specs.declared.HeaderFault.TheVariants.{Letters, GapOrNumber}
 use Rattle.pgm_header.specs.declared.Skip.{Skip}
-use Rattle.pgm_header.specs.declared.Skip.TheVariants.{Past, Paused}
+use Rattle.pgm_header.specs.declared.Skip.TheVariants.{Past, Paused, Unended}
 use Rattle.pgm_header.specs.declared.Header.{Header}
 
 -- 10 it does not open with "P5"; 11 a gap or number is missing or malformed, or the last blank absent
@@ -68,18 +68,18 @@ pub record IsNumber (digits : List ℕ) : Type 0 where
 -- ---- skipping blanks and comments
 
 -- what is left of the grammar where skipping stopped
-abbrev pub left_by : List ℕ → Result Skip HeaderFault → Token
-left_by file (Ok (Past c)) = gap_then (drop c.at file)
-left_by file (Ok (Paused c)) = mix (drop c.at file)
-left_by file (Err f) = fault (fault_number f)
+abbrev pub left_by : List ℕ → Skip → Token
+left_by file (Past c) = gap_then (drop c.at file)
+left_by file (Paused c) = mix (drop c.at file)
+left_by file Unended = malformed
 
 -- where it stopped: within the file, and at least a byte on for each turn where the turns were used up
-abbrev pub SkipWithin : List ℕ → ℕ → ℕ → Result Skip HeaderFault → Type 0
-SkipWithin file from turns (Ok (Past c)) = c.at ≤ length file
-SkipWithin file from turns (Ok (Paused c)) = (from + turns ≤ c.at) × (c.at ≤ length file)
-SkipWithin file from turns (Err f) = Unit {0}
+abbrev pub SkipWithin : List ℕ → ℕ → ℕ → Skip → Type 0
+SkipWithin file from turns (Past c) = c.at ≤ length file
+SkipWithin file from turns (Paused c) = (from + turns ≤ c.at) × (c.at ≤ length file)
+SkipWithin file from turns Unended = Unit {0}
 
 -- skipping from a place came as far as the grammar gives
-pub record Skipped (file : List ℕ) (from turns : ℕ) (token : Token) (r : Result Skip HeaderFault) : Type 0 where
+pub record Skipped (file : List ℕ) (from turns : ℕ) (token : Token) (r : Skip) : Type 0 where
   pub same : left_by file r ≡ token
   pub within : SkipWithin file from turns r

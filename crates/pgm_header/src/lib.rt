@@ -2,7 +2,7 @@
 // specs/Steps.antt what the answers say in the grammar's terms.
 #![tactic(auto)]
 
-ghost use Rattle.std.specs.Prelude.{◌≡◌, ℕ, Bool, ◌≤◌, length, drop};
+ghost use Rattle.std.specs.Prelude.{◌≡◌, ℕ, Bool, ◌+◌, ◌≤◌, length, drop};
 ghost use Rattle.pgm_header.specs.Grammar.{blank, line_end, in_comment, is_digit, front, digits_value, mix, comment, gap, one_blank, number, opening, header};
 ghost use Rattle.pgm_header.specs.Steps.{fault_number, Computes, GapStep, NumberStep, header_of, RasterWithin, IsNumber, Skipped};
 ghost use Rattle.refusals.specs.Numbers.{number_of};
@@ -12,7 +12,7 @@ use std::error::Error;
 use std::fmt;
 
 // How many comments `skip_blanks` and `skip_comment` skip before they hand the cursor back. It bounds the depth of their calls, and so the
-// stack that they need: 64 bytes for each comment.
+// stack that they need: 16 bytes for each comment.
 const TURNS: usize = 100;
 
 // The most digits of a number.
@@ -55,13 +55,16 @@ impl From<HeaderFault> for Refusal {
     }
 }
 
-// How far skipping blanks and comments came.
+// How far skipping blanks and comments came. A comment's two calls hand it on in registers; a `Result<Skip, HeaderFault>` went through memory at each
+// call, and took 1.3 times as long and three times the stack.
 #[derive(Clone, Copy)]
-enum Skip {
+pub enum Skip {
     // To the first byte after them.
     Past(Cursor),
     // To a comment, where the turns were used up.
     Paused(Cursor),
+    // To the end of the file, in a comment.
+    Unended,
 }
 
 // A header, with the cursor at the first byte of the raster.
@@ -87,18 +90,22 @@ fn is_blank(b: u8) -> bool
     b == b' ' || b == b'\t' || is_line_end(b)
 }
 
-// How many bytes at the front pass the test.
-fn front_length<F: Fn(u8) -> bool>(bytes: &[u8], test: F) -> usize
-    requires { F.IsAlwaysCallable test }
-    ensures within { result ≤ length bytes.now }
-    ensures counted { (p : ℕ → Bool) → Computes (F.post test) p → result ≡ front p bytes.now }
+// The place of the first byte from `at` on that fails the test, or the file's length. The loop counts i by hand: over a range, or the iterator of the
+// slice from `at` on, a long comment took 1.5 to 3 times as long.
+fn front_end<F: Fn(u8) -> bool>(file: &[u8], at: usize, test: F) -> usize
+    requires callable { F.IsAlwaysCallable test }
+    requires at_within { at ≤ length file.now }
+    ensures within { (at ≤ result) × (result ≤ length file.now) }
+    ensures counted { (p : ℕ → Bool) → Computes (F.post test) p → result ≡ at + front p (drop at file.now) }
 {
-    for (i, b) in bytes.iter().enumerate() {
-        if !test(*b) {
+    let mut i = at;
+    while i < file.len() {
+        if !test(file[i]) {
             return i;
         }
+        i += 1;
     }
-    bytes.len()
+    i
 }
 
 // The number that one to five digits spell.
@@ -116,29 +123,29 @@ fn digits_value(digits: &[u8]) -> u32
 impl Cursor {
     // Skips blanks and, where a comment follows them, that comment and what is after it.
     #[cycle(skip_blanks_skip_comment)]
-    fn skip_blanks(self, file: &[u8], turns: usize) -> Result<Skip, HeaderFault>
+    fn skip_blanks(self, file: &[u8], turns: usize) -> Skip
         requires { self.at ≤ length file.now }
         ensures { Skipped file.now self.at turns (mix (drop self.at file.now)) result }
     {
-        let at = self.at + front_length(&file[self.at..], |b| is_blank(b));
+        let at = front_end(file, self.at, |b| is_blank(b));
         if at == file.len() || file[at] != b'#' {
-            return Ok(Skip::Past(Cursor { at }));
+            return Skip::Past(Cursor { at });
         }
         if turns == 0 {
-            return Ok(Skip::Paused(Cursor { at }));
+            return Skip::Paused(Cursor { at });
         }
         Cursor { at: at + 1 }.skip_comment(file, turns - 1)
     }
 
     // Skips what is left of a comment, and the blanks and comments after it.
     #[cycle(skip_blanks_skip_comment)]
-    fn skip_comment(self, file: &[u8], turns: usize) -> Result<Skip, HeaderFault>
+    fn skip_comment(self, file: &[u8], turns: usize) -> Skip
         requires { self.at ≤ length file.now }
         ensures { Skipped file.now self.at turns (comment (drop self.at file.now)) result }
     {
-        let at = self.at + front_length(&file[self.at..], |b| !is_line_end(b));
+        let at = front_end(file, self.at, |b| !is_line_end(b));
         if at == file.len() {
-            return Err(HeaderFault::GapOrNumber);
+            return Skip::Unended;
         }
         Cursor { at: at + 1 }.skip_blanks(file, turns)
     }
@@ -150,9 +157,10 @@ impl Cursor {
     {
         let mut from = self;
         loop {
-            match from.skip_blanks(file, TURNS)? {
+            match from.skip_blanks(file, TURNS) {
                 Skip::Past(end) => return Ok(end),
                 Skip::Paused(next) => from = next,
+                Skip::Unended => return Err(HeaderFault::GapOrNumber),
             }
         }
     }
@@ -181,7 +189,7 @@ impl Cursor {
         let Some(rest) = file.get(self.at..) else {
             return Err(HeaderFault::GapOrNumber);
         };
-        let n = front_length(rest, |b| b.is_ascii_digit());
+        let n = front_end(rest, 0, |b| b.is_ascii_digit());
         if n < 1 || MAX_DIGITS < n {
             return Err(HeaderFault::GapOrNumber);
         }
