@@ -1,8 +1,8 @@
 /* Livukoe: verified cleaning of grey images, for C.
  *
  * Link with -llivukoe where it is installed (`pkg-config --cflags --libs livukoe`), or with the archive that `make`
- * builds, target/staticlib/liblivukoe.a. Each function of the library calls one proved function and has its contract
- * (crates/livukoe/src/lib.rt).
+ * builds, target/staticlib/liblivukoe.a. Each function of the library calls one proved function, lays its answer out for
+ * C, and has its contract, said of that (crates/livukoe/src/lib.rt).
  *
  * A plate is width x height greys, one 16-bit number each, row by row from the top left, and a greatest grey, `greatest`
  * below, which is 1 to 65535: a grey runs from 0, full ink, to the greatest, bare paper. Width and height are 1 to
@@ -32,10 +32,10 @@
  *     livukoe_regional_maxima 13312
  *     livukoe_node_list       13312
  *     livukoe_node_entries    13312
- *     livukoe_read_pgm         6144
- *     livukoe_roll_count       6144
- *     livukoe_roll_plate       6144
- *     livukoe_plate_at         6144
+ *     livukoe_read_pgm         2048
+ *     livukoe_roll_count       2048
+ *     livukoe_roll_plate       3072
+ *     livukoe_plate_at         2048
  *     livukoe_write_pgm        1024
  *     livukoe_seeded_plate     1024
  *     livukoe_write_record    13312
