@@ -33,7 +33,7 @@
  *     livukoe_node_list       13312
  *     livukoe_node_entries    13312
  *     livukoe_read_pgm         2048
- *     livukoe_roll_count       2048
+ *     livukoe_roll_count       3072
  *     livukoe_roll_plate       3072
  *     livukoe_plate_at         2048
  *     livukoe_write_pgm        1024
